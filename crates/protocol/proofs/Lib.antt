@@ -1,0 +1,2 @@
+pub mod PlainText
+pub mod Writes
