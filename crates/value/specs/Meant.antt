@@ -1,0 +1,26 @@
+-- What the values that a station holds mean: the type and the value of each.
+use lib.IntN.{pos}
+use Rattle.protocol.specs.Held.{text-bytes}
+use Rattle.protocol.specs.declared.kind.Kind.{Kind}
+use Rattle.protocol.specs.declared.kind.Kind.the-variants as K
+use Rattle.value.specs.Values.{Datum, truth, whole, words}
+use Rattle.value.specs.declared.value.Value.{Value}
+use Rattle.value.specs.declared.value.Value.the-variants as V
+
+abbrev pub kind-of : Value → Kind
+kind-of (V.Bo b) = K.Bo
+kind-of (V.In n) = K.In
+kind-of (V.Sh n) = K.Sh
+kind-of (V.USh n) = K.USh
+kind-of (V.Lo l) = K.Lo
+kind-of (V.By n) = K.By
+kind-of (V.St t) = K.St
+
+abbrev pub datum-of : Value → Datum
+datum-of (V.Bo b) = truth b
+datum-of (V.In n) = whole n
+datum-of (V.Sh n) = whole n
+datum-of (V.USh n) = whole (pos n)
+datum-of (V.Lo l) = whole (l .number)
+datum-of (V.By n) = whole (pos n)
+datum-of (V.St t) = words (text-bytes t)
