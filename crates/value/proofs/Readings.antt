@@ -25,13 +25,17 @@ use Rattle.protocol.specs.Held.{text-bytes}
 use Rattle.protocol.specs.Texts.{textual, text-of}
 use Rattle.protocol.specs.declared.kind.Kind.{Kind}
 use Rattle.protocol.specs.declared.kind.Kind.the-variants as K
+use Rattle.protocol.proofs.PlainText.{few}
+use Rattle.decimal.specs.Range.{single-of, double-of}
+use Rattle.decimal.proofs.Forms.{kept-single, kept-double, spelled-textual, single-back, double-back}
 use Rattle.value.specs.Whole.{whole-of, long-least, long-most}
-use Rattle.value.specs.Values.{Datum, truth, whole, words, truth-of, read-as, value-read, spelled, Valid}
+use Rattle.value.specs.Values.{Datum, truth, whole, real, words, truth-of, read-as, value-read, spelled, Valid}
 use Rattle.value.specs.Meant.{kind-of, datum-of}
 use Rattle.value.specs.declared.value.Value.{Value}
 use Rattle.value.specs.declared.value.Value.the-variants as V
 use Rattle.value.proofs.Wholes.{reads-back, one-spelling}
 use Rattle.value.proofs.Signs.{signed-textual}
+use Rattle.value.proofs.Reals.{single-again, double-again}
 
 mapped-some : {A B : Type 0} (f : A → B) (o : Option A) (y : B) → mapped f o ≡ Some y → (x : A) × ((o ≡ Some x) × (f x ≡ y))
 mapped-some f None y e = let z : _≡_ {A = ℕ} 0 1 = cc in absurd (omega arith)
@@ -68,8 +72,14 @@ read-valid K.In bs d e = again K.In bs d (whole-once (negsuc 2147483647) (pos 21
 read-valid K.Sh bs d e = again K.Sh bs d (whole-once (negsuc 32767) (pos 32767) bs d (search needs) (search needs) (reads-as K.Sh bs d e)) e
 read-valid K.USh bs d e = again K.USh bs d (whole-once (pos 0) (pos 65535) bs d (search needs) (search needs) (reads-as K.USh bs d e)) e
 read-valid K.Lo bs d e = again K.Lo bs d (whole-once long-least long-most bs d (search needs) (search needs) (reads-as K.Lo bs d e)) e
-read-valid K.Si bs d e = ?
-read-valid K.Do bs d e = ?
+read-valid K.Si bs d e =
+    let m = mapped-some real (single-of bs) d (reads-as K.Si bs d e) in
+    let a = single-again bs (m .0) (few bs (read-textual K.Si bs d e)) (m .1 .0) in
+    subst (λ x. Valid K.Si x) (m .1 .1) (cond-true _ _ _ (a .0) ∙ ap (mapped real) (a .1))
+read-valid K.Do bs d e =
+    let m = mapped-some real (double-of bs) d (reads-as K.Do bs d e) in
+    let a = double-again bs (m .0) (few bs (read-textual K.Do bs d e)) (m .1 .0) in
+    subst (λ x. Valid K.Do x) (m .1 .1) (cond-true _ _ _ (a .0) ∙ ap (mapped real) (a .1))
 read-valid K.By bs d e = again K.By bs d (whole-once (pos 0) (pos 255) bs d (search needs) (search needs) (reads-as K.By bs d e)) e
 read-valid K.St bs d e = let s : Some (words bs) ≡ Some d = reads-as K.St bs d e in let t : words bs ≡ d = cc in again K.St bs d (ap spelled t) e
 
@@ -87,6 +97,8 @@ Fit (V.In n) = SFits w32 n
 Fit (V.Sh n) = SFits w16 n
 Fit (V.USh n) = n < 2 ^ 16
 Fit (V.Lo l) = Unit {0}
+Fit (V.Si s) = Unit {0}
+Fit (V.Do d) = Unit {0}
 Fit (V.By n) = n < 2 ^ 8
 Fit (V.St t) = Unit {0}
 
@@ -106,6 +118,10 @@ value-valid (V.In n) f = whole-back (negsuc 2147483647) (pos 2147483647) n (sear
 value-valid (V.Sh n) f = whole-back (negsuc 32767) (pos 32767) n (search needs) (search (needs, ints)) (search (needs, ints))
 value-valid (V.USh n) f = whole-back (pos 0) (pos 65535) (pos n) (search needs) (search (needs, ints)) (search (needs, ints))
 value-valid (V.Lo l) f = whole-back long-least long-most (l .number) (search needs) (l .within .0) (l .within .1)
+value-valid (V.Si s) f =
+    cond-true _ _ _ (spelled-textual (s .real) (kept-single (s .real) (s .normal) (s .within))) ∙ ap (mapped real) (single-back (s .real) (s .normal) (s .within))
+value-valid (V.Do d) f =
+    cond-true _ _ _ (spelled-textual (d .real) (kept-double (d .real) (d .normal) (d .within))) ∙ ap (mapped real) (double-back (d .real) (d .normal) (d .within))
 value-valid (V.By n) f = whole-back (pos 0) (pos 255) (pos n) (search needs) (search (needs, ints)) (search (needs, ints))
 value-valid (V.St t) f = cond-true _ _ _ (t .plain)
 

@@ -3,7 +3,8 @@ use lib.IntN.{pos}
 use Rattle.protocol.specs.Held.{text-bytes}
 use Rattle.protocol.specs.declared.kind.Kind.{Kind}
 use Rattle.protocol.specs.declared.kind.Kind.the-variants as K
-use Rattle.value.specs.Values.{Datum, truth, whole, words}
+use Rattle.decimal.specs.Views.{real-of, single-real}
+use Rattle.value.specs.Values.{Datum, truth, whole, real, words}
 use Rattle.value.specs.declared.value.Value.{Value}
 use Rattle.value.specs.declared.value.Value.the-variants as V
 
@@ -13,6 +14,8 @@ kind-of (V.In n) = K.In
 kind-of (V.Sh n) = K.Sh
 kind-of (V.USh n) = K.USh
 kind-of (V.Lo l) = K.Lo
+kind-of (V.Si s) = K.Si
+kind-of (V.Do d) = K.Do
 kind-of (V.By n) = K.By
 kind-of (V.St t) = K.St
 
@@ -22,5 +25,7 @@ datum-of (V.In n) = whole n
 datum-of (V.Sh n) = whole n
 datum-of (V.USh n) = whole (pos n)
 datum-of (V.Lo l) = whole (l .number)
+datum-of (V.Si s) = real (single-real s)
+datum-of (V.Do d) = real (real-of d)
 datum-of (V.By n) = whole (pos n)
 datum-of (V.St t) = words (text-bytes t)

@@ -16,12 +16,16 @@ use Rattle.std.specs.shelf.Text.{sameBytes}
 use Rattle.protocol.specs.Texts.{textual}
 use Rattle.protocol.specs.declared.kind.Kind.{Kind}
 use Rattle.protocol.specs.declared.kind.Kind.the-variants as K
+use Rattle.decimal.specs.Range.{single-of, double-of}
+use Rattle.decimal.specs.Spelling.{spelling}
+use Rattle.decimal.specs.declared.real.Real.{Real}
 use Rattle.value.specs.Whole.{whole-of, long-least, long-most}
 
 -- what a value is, apart from how a station holds it
 pub data Datum : Type 0 where
   truth : Bool → Datum
   whole : ℤ → Datum
+  real : Real → Datum
   words : List ℕ → Datum
 
 -- True or False
@@ -34,8 +38,8 @@ read-as K.In bs = mapped whole (whole-of (negsuc 2147483647) (pos 2147483647) bs
 read-as K.Sh bs = mapped whole (whole-of (negsuc 32767) (pos 32767) bs)
 read-as K.USh bs = mapped whole (whole-of (pos 0) (pos 65535) bs)
 read-as K.Lo bs = mapped whole (whole-of long-least long-most bs)
-read-as K.Si bs = None
-read-as K.Do bs = None
+read-as K.Si bs = mapped real (single-of bs)
+read-as K.Do bs = mapped real (double-of bs)
 read-as K.By bs = mapped whole (whole-of (pos 0) (pos 255) bs)
 read-as K.St bs = Some (words bs)
 
@@ -47,6 +51,7 @@ abbrev pub spelled : Datum → List ℕ
 spelled (truth true) = codes "True"
 spelled (truth false) = codes "False"
 spelled (whole z) = signed z
+spelled (real x) = spelling x
 spelled (words bs) = bs
 
 -- d is a value of type k: its spelling reads as d

@@ -10,6 +10,8 @@ use crate::long::Long;
 use crate::text::as_str;
 use crate::value::Value;
 use crate::whole::read_whole;
+use decimal::decimal::Decimal;
+use decimal::single::Single;
 use protocol::kind::Kind;
 use protocol::text::Text;
 
@@ -68,6 +70,22 @@ fn read_lo(text: &Text) -> Option<Value>
     Some(Value::Lo(Long { number }))
 }
 
+/// Reads a value of type Si.
+fn read_si(text: &Text) -> Option<Value>
+    ensures value { λ r. ⌜ mapped datum-of r ≡ read-as K.Si (text-bytes (now (text .entry))) ⌝ }
+    ensures kind { λ r. ⌜ BySome r (Unit {0}) (λ v. kind-of v ≡ K.Si) ⌝ }
+{
+    Some(Value::Si(Single::read(text)?))
+}
+
+/// Reads a value of type Do.
+fn read_do(text: &Text) -> Option<Value>
+    ensures value { λ r. ⌜ mapped datum-of r ≡ read-as K.Do (text-bytes (now (text .entry))) ⌝ }
+    ensures kind { λ r. ⌜ BySome r (Unit {0}) (λ v. kind-of v ≡ K.Do) ⌝ }
+{
+    Some(Value::Do(Decimal::read(text)?))
+}
+
 /// Reads a value of type By.
 fn read_by(text: &Text) -> Option<Value>
     ensures value { λ r. ⌜ mapped datum-of r ≡ read-as K.By (text-bytes (now (text .entry))) ⌝ }
@@ -88,8 +106,8 @@ fn read_text(kind: Kind, text: &Text) -> Option<Value>
         Kind::Sh => read_sh(text),
         Kind::USh => read_ush(text),
         Kind::Lo => read_lo(text),
-        Kind::Si => None,
-        Kind::Do => None,
+        Kind::Si => read_si(text),
+        Kind::Do => read_do(text),
         Kind::By => read_by(text),
         Kind::St => Some(Value::St(*text)),
     }

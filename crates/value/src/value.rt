@@ -1,5 +1,7 @@
 //! Values.
 use crate::long::Long;
+use decimal::decimal::Decimal;
+use decimal::single::Single;
 use protocol::text::Text;
 
 /// A value of one of the nine types.
@@ -15,6 +17,10 @@ pub enum Value {
     USh(u16),
     /// A long whole number.
     Lo(Long),
+    /// An exact decimal in the range of single precision.
+    Si(Single),
+    /// An exact decimal in the range of double precision.
+    Do(Decimal),
     /// A whole number of 8 bits without a sign.
     By(u8),
     /// A text.

@@ -25,6 +25,8 @@ impl Value {
             Value::Sh(_) => Kind::Sh,
             Value::USh(_) => Kind::USh,
             Value::Lo(_) => Kind::Lo,
+            Value::Si(_) => Kind::Si,
+            Value::Do(_) => Kind::Do,
             Value::By(_) => Kind::By,
             Value::St(_) => Kind::St,
         }
@@ -44,6 +46,8 @@ impl Value {
             Value::Sh(n) => spell_whole(n as i64),
             Value::USh(n) => spell_whole(n as i64),
             Value::Lo(long) => spell_whole(long.number),
+            Value::Si(single) => single.spelling(),
+            Value::Do(decimal) => decimal.spelling(),
             Value::By(n) => spell_whole(n as i64),
             Value::St(text) => text,
         }

@@ -33,6 +33,12 @@ returns-in-USh c =
 pub returns-in-Lo : need.returns-in-Lo
 returns-in-Lo c = let t = kind-told (c .args .self) (V.Lo (c .in-Lo .field-0)) (c .in-Lo .is) tt in record { value = t .0; valid = t .1 }
 
+pub returns-in-Si : need.returns-in-Si
+returns-in-Si c = let t = kind-told (c .args .self) (V.Si (c .in-Si .field-0)) (c .in-Si .is) tt in record { value = t .0; valid = t .1 }
+
+pub returns-in-Do : need.returns-in-Do
+returns-in-Do c = let t = kind-told (c .args .self) (V.Do (c .in-Do .field-0)) (c .in-Do .is) tt in record { value = t .0; valid = t .1 }
+
 pub returns-in-By : need.returns-in-By
 returns-in-By c =
     let n = c .in-By .field-0 in

@@ -50,6 +50,16 @@ returns-in-Lo c =
     let s = spells (c .args .self .now) (V.Lo (c .in-Lo .long)) (text-bytes (c .spell-whole-in-Lo .result)) (c .in-Lo .is) tt (simp toZ-ofZ at (c .spell-whole-in-Lo .ensures)) in
     record { bytes = s .bytes; back = s .back; plain = s .plain; once = s .once }
 
+pub returns-in-Si : need.returns-in-Si
+returns-in-Si c =
+    let s = spells (c .args .self .now) (V.Si (c .in-Si .single)) (text-bytes (c .spelling .result)) (c .in-Si .is) tt (c .spelling .ensures .bytes) in
+    record { bytes = s .bytes; back = s .back; plain = s .plain; once = s .once }
+
+pub returns-in-Do : need.returns-in-Do
+returns-in-Do c =
+    let s = spells (c .args .self .now) (V.Do (c .in-Do .decimal)) (text-bytes (c .spelling-in-Do .result)) (c .in-Do .is) tt (c .spelling-in-Do .ensures .bytes) in
+    record { bytes = s .bytes; back = s .back; plain = s .plain; once = s .once }
+
 pub returns-in-By : need.returns-in-By
 returns-in-By c =
     let n = c .in-By .n in
