@@ -1,13 +1,15 @@
--- Values and their spellings: a text that reads has a spelling that reads as the same value, and what a station holds
--- has one too.
+-- Values and their spellings.
+--     read-valid     what is read from a text is a value of its type: its spelling reads as the same value
+--     value-valid    what a station holds is a value of its type
+--     valid-textual  the spelling of a value is a text
+--     valid-apart    two values have two spellings
 use mathlib.Core.Path.{_≡_, refl, sym, ap, subst, _∙_}
-use mathlib.Core.Bool.{Bool, true, false, cond, _&&_}
-use mathlib.Core.List.{List, [], _∷_}
+use mathlib.Core.Bool.{Bool, true, false, cond}
+use mathlib.Core.List.{List}
 use mathlib.Core.Logic.{_⊎_, inl, inr}
-use Prim.Native.Nat.{ℕ, _^_, _<_, _≤_}
+use Prim.Native.Nat.{ℕ, _^_, _<_}
 use native.Mathlib.Omega.{arith}
 use borrow.Author.Needs.{needs}
-use lib.Chars.{codes}
 use lib.IntN.{ℤ, pos, negsuc}
 use lib.Signed.{_≤ℤ_}
 use lib.Utf8.{encode}
@@ -21,7 +23,6 @@ use Rattle.std.specs.shelf.Text.{sameBytes, decodes}
 use Rattle.std.proofs.shelf.Equals.{sameBytes-decides}
 use Rattle.std.proofs.shelf.Signed.{ints}
 use Rattle.std.proofs.shelf.Tests.{cases-bool, cond-true, cond-false}
-use Rattle.protocol.specs.Held.{text-bytes}
 use Rattle.protocol.specs.Texts.{textual, text-of}
 use Rattle.protocol.specs.declared.kind.Kind.{Kind}
 use Rattle.protocol.specs.declared.kind.Kind.the-variants as K
@@ -83,12 +84,16 @@ read-valid K.Do bs d e =
 read-valid K.By bs d e = again K.By bs d (whole-once (pos 0) (pos 255) bs d (search needs) (search needs) (reads-as K.By bs d e)) e
 read-valid K.St bs d e = let s : Some (words bs) ≡ Some d = reads-as K.St bs d e in let t : words bs ≡ d = cc in again K.St bs d (ap spelled t) e
 
--- the spelling of a value is a text, reads as the value, and is spelled as it stands
+-- the spelling of a value is a text, and is spelled as it stands
 pub valid-textual : (k : Kind) (d : Datum) → Valid k d → textual (spelled d) ≡ true
 valid-textual k d v = read-textual k (spelled d) d v
 
 pub valid-once : (k : Kind) (d : Datum) → Valid k d → mapped spelled (value-read k (spelled d)) ≡ Some (spelled d)
 valid-once k d v = ap (mapped spelled) v
+
+-- values of one type with one spelling are the same
+pub valid-apart : (k : Kind) (d e : Datum) → Valid k d → Valid k e → spelled d ≡ spelled e → d ≡ e
+valid-apart k d e v w s = let r : Some d ≡ Some e = sym v ∙ ap (value-read k) s ∙ w in cc
 
 -- a number held in so many bits lies between the ends of its type
 abbrev pub Fit : Value → Type 0
@@ -124,6 +129,9 @@ value-valid (V.Do d) f =
     cond-true _ _ _ (spelled-textual (d .real) (kept-double (d .real) (d .normal) (d .within))) ∙ ap (mapped real) (double-back (d .real) (d .normal) (d .within))
 value-valid (V.By n) f = whole-back (pos 0) (pos 255) (pos n) (search needs) (search (needs, ints)) (search (needs, ints))
 value-valid (V.St t) f = cond-true _ _ _ (t .plain)
+
+pub value-textual : (v : Value) → Fit v → textual (spelled (datum-of v)) ≡ true
+value-textual v f = valid-textual (kind-of v) (datum-of v) (value-valid v f)
 
 pub kind-told : (v w : Value) → v ≡ w → Fit w → (kind-of w ≡ kind-of v) × Valid (kind-of v) (datum-of v)
 kind-told v w e f = (ap kind-of (sym e), subst (λ x. Valid (kind-of x) (datum-of x)) (sym e) (value-valid w f))

@@ -2,6 +2,7 @@
 --     read-as k bs     the value of type k that the bytes write, if they write one
 --     value-read k bs  the same of bytes that are a text
 --     spelled d        the one spelling of a value
+--     Valid k d        d is a value of type k
 use mathlib.Core.Path.{_≡_}
 use mathlib.Core.Bool.{Bool, true, false, cond}
 use mathlib.Core.List.{List}
@@ -32,6 +33,7 @@ pub data Datum : Type 0 where
 abbrev pub truth-of : List ℕ → Option Bool
 truth-of bs = cond (sameBytes bs (codes "True")) (Some true) (cond (sameBytes bs (codes "False")) (Some false) None)
 
+-- In runs from -2147483648 to 2147483647, Sh from -32768 to 32767, USh from 0 to 65535, By from 0 to 255
 abbrev pub read-as : Kind → List ℕ → Option Datum
 read-as K.Bo bs = mapped truth (truth-of bs)
 read-as K.In bs = mapped whole (whole-of (negsuc 2147483647) (pos 2147483647) bs)

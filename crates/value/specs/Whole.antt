@@ -36,7 +36,7 @@ begins bs =
     (eqb (getD bs 0 0) 48 && eqb (length bs) 1)
     || (within 49 57 (getD bs 0 0) || (eqb (getD bs 0 0) 45 && within 49 57 (getD bs 1 0)))
 
--- -922337236854775808
+-- -922337236854775808, where `negsuc n` is -(n + 1)
 abbrev pub long-least : ℤ
 long-least = negsuc 922337236854775807
 
