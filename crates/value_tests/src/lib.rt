@@ -93,7 +93,8 @@ Do 1000000000000000000000000000000000000000 1E+39
 
     fn reads(row: &str) -> Result<(), Fail> {
         let mut words = row.split(' ');
-        let (Some(kind), Some(text), Some(spelling)) = (words.next(), words.next(), words.next()) else {
+        let (Some(kind), Some(text), Some(spelling)) = (words.next(), words.next(), words.next())
+        else {
             return Err(Fail::new("a row has three words"));
         };
         let Some(kind) = Kind::named(kind) else {
