@@ -6,4 +6,6 @@ mod digits;
 pub mod fault;
 pub mod hours;
 pub mod making;
+pub mod names;
+pub mod rows;
 pub mod star;
