@@ -1,20 +1,34 @@
 //! Making a star, and what it holds.
 ghost use mathlib.Core.Path.{_≡_};
 ghost use Rattle.protocol.specs.Held.{text-bytes};
-ghost use Rattle.sky.specs.Stars.{star-name, star-ascension, star-declination, made-row, star-of};
+ghost use Rattle.sky.specs.Stars.{star-name, star-ascension, star-declination, made-row, ascends, declines, star-of};
 use crate::fault::RowFault;
 use crate::star::Star;
 use protocol::text::Text;
+
+/// Whether a number is a right ascension.
+pub(crate) fn is_ascension(number: i32) -> bool
+    ensures { λ r. ⌜ r ≡ ascends number ⌝ }
+{
+    0 <= number && number <= 1_295_999_999
+}
+
+/// Whether a number is a declination.
+pub(crate) fn is_declination(number: i32) -> bool
+    ensures { λ r. ⌜ r ≡ declines number ⌝ }
+{
+    -324_000_000 <= number && number <= 324_000_000
+}
 
 impl Star {
     /// The star with this name at this place, or the first of the two angles that is out of its range.
     pub fn new(name: Text, ascension: i32, declination: i32) -> Result<Star, RowFault>
         ensures { λ r. ⌜ made-row r ≡ star-of (text-bytes name) ascension declination ⌝ }
     {
-        if ascension < 0 || ascension > 1_295_999_999 {
+        if !is_ascension(ascension) {
             return Err(RowFault::Ascension);
         }
-        if declination < -324_000_000 || declination > 324_000_000 {
+        if !is_declination(declination) {
             return Err(RowFault::Declination);
         }
         Ok(Star {

@@ -3,7 +3,7 @@ use native.Mathlib.Omega.{arith}
 use Rattle.std.proofs.shelf.Lists.{at-drop-all}
 use Rattle.sky.specs.Names.{place-from}
 use Rattle.sky.proofs.Lookups.{place-here, place-later}
-use Rattle.sky.proofs.names.find.Needs as need
+use Rattle.sky.proofs.names.find_from.Needs as need
 
 pub returns-then-is-named : need.returns-then-is-named
 returns-then-is-named c =
