@@ -24,7 +24,8 @@ class Words(unittest.TestCase):
         self.assertEqual(decode(b"\\e"), b"")
         self.assertEqual(decode(b"\\x5cx41"), b"\\x41")
         self.assertEqual(decode(b"\\x41\\x42"), b"AB")
-        for bad in (b"", b"\\", b"\\\\", b"\\x", b"\\x4", b"\\xC3", b"\\X41", b"\\n", b"a\\e", b"\\ea", b"a b", b"\t", b"\xc3\xa9", b"\x7f", b"a\n"):
+        for bad in (b"", b"\\", b"\\\\", b"\\x", b"\\x4", b"\\xC3", b"\\X41", b"\\n", b"a\\e",
+                    b"\\ea", b"a b", b"\t", b"\xc3\xa9", b"\x7f", b"a\n"):
             self.assertIsNone(decode(bad), bad)
 
     def test_there_and_back(self):
@@ -49,8 +50,10 @@ class Console(unittest.TestCase):
             (b"", b""), (b"# x", b""), (b"#", b""), (b" # x", b"error\n"), (b"  ", b"error\n"), (b"\r", b"error\n"),
             (b"value Do 2.2E17", b"value 2.2E+17\n"), (b"  value   Si  -0 ", b"value 0\n"), (b"value In -0", b"none\n"),
             (b"value St \\xce\\xb1\\x20Lyr", b"value \\xce\\xb1\\x20Lyr\n"), (b"value St \\x56ega", b"value Vega\n"),
-            (b"value St \\e", b"none\n"), (b"value St \\x5c", b"value \\x5c\n"), (b"value Nil 0", b"error\n"), (b"value Do", b"error\n"),
-            (b"value Do 1 2", b"error\n"), (b"value Bo True\r", b"error\n"), (b"value\tBo True", b"error\n"), (b"value St \\xC3", b"error\n"),
+            (b"value St \\e", b"none\n"), (b"value St \\x5c", b"value \\x5c\n"), (b"value Nil 0", b"error\n"),
+            (b"value Do", b"error\n"),
+            (b"value Do 1 2", b"error\n"), (b"value Bo True\r", b"error\n"), (b"value\tBo True", b"error\n"),
+            (b"value St \\xC3", b"error\n"),
             (b"value St \xc3\xa9", b"error\n"), (b"\\x76alue Bo True", b"error\n"), (b"value \\x42o True", b"error\n"),
         ]:
             with self.subTest(line=line):
