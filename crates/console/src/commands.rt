@@ -10,6 +10,7 @@ use protocol::kind::Kind;
 use std::alloc::AllocError;
 use std::alloc::Global;
 use std::str::from_utf8;
+use value::read::read_value;
 
 /// The answers to all lines of a script.
 pub fn answer_all(heap: Global, script: &[u8]) -> Result<Vec<u8>, AllocError> {
@@ -56,11 +57,17 @@ fn kind(word: &[u8]) -> Result<Kind, Trouble> {
     }
 }
 
-/// Reads a text as a value of a type, and writes its spelling.
+/// Reads a text as a value of a type, and tells its spelling.
 fn value(heap: Global, words: &mut Words<'_>, out: &mut Vec<u8>) -> Result<(), Trouble> {
     let kind = kind(words.word()?)?;
     let text = decode(heap, words.word()?)?;
     words.end()?;
-    out.extend_from_slice(kind.word().as_bytes())?;
-    Ok(encode(text.as_slice(), out)?)
+    match read_value(kind, text.as_slice()) {
+        Some(value) => {
+            out.extend_from_slice(b"value ")?;
+            encode(value.spelling().as_bytes(), out)?;
+        }
+        None => out.extend_from_slice(b"none")?,
+    }
+    Ok(())
 }

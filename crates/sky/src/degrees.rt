@@ -12,7 +12,7 @@ use crate::star::Star;
 use std::fmt;
 
 /// A declination: a sign, and its size in degrees, minutes and seconds of arc.
-#[derive(Clone, Copy, PartialEq, Eq, Debug)]
+#[derive(Clone, Copy)]
 pub struct Degrees {
     pub negative: bool,
     pub degrees: u8,

@@ -1,7 +1,7 @@
 //! What can be wrong with a row of a star catalogue.
 
 /// Why a row is no star. Where several faults are there, the first in this order is told.
-#[derive(Clone, Copy, PartialEq, Eq, Debug)]
+#[derive(Clone, Copy)]
 pub enum RowFault {
     /// The row does not have three parts.
     Fields,

@@ -13,7 +13,7 @@ use crate::star::Star;
 use std::fmt;
 
 /// A right ascension as a time: 24 hours are the full circle, so one second of time is 15 arcseconds.
-#[derive(Clone, Copy, PartialEq, Eq, Debug)]
+#[derive(Clone, Copy)]
 pub struct Hours {
     pub hours: u8,
     pub minutes: u8,
