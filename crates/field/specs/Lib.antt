@@ -1,0 +1,4 @@
+pub mod Numerals
+pub mod Fields
+pub mod Frames
+pub mod Parts
