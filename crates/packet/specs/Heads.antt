@@ -1,5 +1,5 @@
 -- The head of a packet: its first four fields.
-use mathlib.Core.Bool.{Bool, false, cond}
+use mathlib.Core.Bool.{cond}
 use mathlib.Core.List.{List}
 use Prim.Native.Nat.{ℕ}
 use lib.Chars.{codes}
@@ -8,7 +8,6 @@ use Rattle.std.specs.declared.option.Option.{Option}
 use Rattle.std.specs.declared.option.Option.the-variants.{Some, None}
 use Rattle.std.specs.declared.result.Result.{Result}
 use Rattle.std.specs.declared.result.Result.the-variants.{Ok, Err}
-use Rattle.std.specs.shelf.Text.{sameBytes}
 use Rattle.protocol.specs.declared.refusal.Refusal.{Refusal}
 use Rattle.protocol.specs.declared.refusal.Refusal.the-variants as R
 use Rattle.field.specs.Fields.{first}
@@ -16,32 +15,13 @@ use Rattle.field.specs.Numerals.{numeral}
 use Rattle.packet.specs.declared.words.Version.{Version}
 use Rattle.packet.specs.declared.words.Version.the-variants.{V10, V11}
 use Rattle.packet.specs.declared.head.Head.{Head}
+use Rattle.packet.specs.Rules.{ruled, then, or-fault, is-word}
 use Rattle.packet.specs.Words.{version-named, direction-named, command-numbered}
-
--- what a rule makes of a field, if the field is there
-abbrev pub ruled : {X : Type 0} → (List ℕ → Option X) → Option (List ℕ) → Option X
-ruled rule None = None
-ruled rule (Some field) = rule field
-
--- what was made of a field, or else the fault
-abbrev pub or-fault : {X Y E : Type 0} → E → Option X → (X → Result Y E) → Result Y E
-or-fault fault None next = Err fault
-or-fault fault (Some x) next = next x
-
--- the field is the command 3 of Discovery
-abbrev pub discovers : Option (List ℕ) → Bool
-discovers None = false
-discovers (Some field) = sameBytes field (codes "3")
 
 -- a version may be 1.0 only beside a command other than 3
 abbrev pub not-old : Option (List ℕ) → Version → Option Version
-not-old command V10 = cond (discovers command) None (Some V10)
+not-old command V10 = cond (is-word (codes "3") command) None (Some V10)
 not-old command V11 = Some V11
-
--- what a second rule makes of what a first one gave
-abbrev pub then : {X Y : Type 0} → Option X → (X → Option Y) → Option Y
-then None rule = None
-then (Some x) rule = rule x
 
 abbrev pub version-beside : Option (List ℕ) → Option (List ℕ) → Option Version
 version-beside command version = then (ruled version-named version) (not-old command)

@@ -1,2 +1,5 @@
 pub mod Words
+pub mod Rules
 pub mod Heads
+pub mod Groups
+pub mod Cursors

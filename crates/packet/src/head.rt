@@ -2,15 +2,16 @@
 ghost use mathlib.Core.Path.{_≡_};
 ghost use lib.ListN.{drop};
 ghost use Rattle.std.specs.Options.{mapped};
-ghost use Rattle.field.specs.Numerals.{numeral};
 ghost use Rattle.field.specs.Parts.{part-bytes, fields-left, Onward};
 ghost use Rattle.packet.specs.Words.{direction-named};
-ghost use Rattle.packet.specs.Heads.{ruled, discovers, version-beside, head-by, head-of};
+ghost use Rattle.packet.specs.Rules.{ruled};
+ghost use Rattle.packet.specs.Heads.{version-beside, head-by, head-of};
+use crate::rules::is_word;
+use crate::rules::number_in;
 use crate::words::Command;
 use crate::words::Direction;
 use crate::words::Version;
 use field::fields::Fields;
-use field::number::number;
 use field::part::Part;
 use protocol::refusal::Refusal;
 
@@ -23,23 +24,13 @@ pub(crate) struct Head {
     pub(crate) command: Command,
 }
 
-/// Whether the field is the command 3 of Discovery.
-fn is_discovery(command: Option<Part<'_>>) -> bool
-    ensures { λ r. ⌜ r ≡ discovers (mapped part-bytes (command .entry)) ⌝ }
-{
-    match command {
-        Some(part) => part.text == "3",
-        None => false,
-    }
-}
-
 /// The version, which may be 1.0 only beside a command other than 3.
 fn version_beside(command: Option<Part<'_>>, version: Option<Part<'_>>) -> Option<Version>
     ensures { λ r. ⌜ r ≡ version-beside (mapped part-bytes (command .entry)) (mapped part-bytes (version .entry)) ⌝ }
 {
     match Version::named(version?.text)? {
         Version::V10 => {
-            if is_discovery(command) {
+            if is_word(command, "3") {
                 None
             } else {
                 Some(Version::V10)
@@ -54,13 +45,6 @@ fn direction_in(field: Option<Part<'_>>) -> Option<Direction>
     ensures { λ r. ⌜ r ≡ ruled direction-named (mapped part-bytes (field .entry)) ⌝ }
 {
     Direction::named(field?.text)
-}
-
-/// The number, if the field is there and spells one up to `top`.
-fn number_in(field: Option<Part<'_>>, top: u16) -> Option<u16>
-    ensures { λ r. ⌜ r ≡ ruled (numeral top) (mapped part-bytes (field .entry)) ⌝ }
-{
-    number(field?.text, top)
 }
 
 /// The head of these four fields, or the refusal of the first at fault.

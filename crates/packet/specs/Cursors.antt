@@ -1,0 +1,29 @@
+-- What the cursors over a payload have still to hand out.
+use mathlib.Core.List.{List}
+use Prim.Native.Nat.{ℕ}
+use Rattle.std.specs.declared.result.Result.{Result}
+use Rattle.std.specs.declared.result.Result.the-variants.{Ok, Err}
+use Rattle.protocol.specs.declared.code.Code.{Code}
+use Rattle.field.specs.Parts.{part-bytes, fields-left}
+use Rattle.packet.specs.declared.groups.Write.{Write}
+use Rattle.packet.specs.declared.groups.Indices.{Indices}
+use Rattle.packet.specs.declared.groups.Writes.{Writes}
+use Rattle.packet.specs.declared.groups.Codes.{Codes}
+use Rattle.packet.specs.Groups.{index-group, write-group, code-group, ahead}
+
+-- an index and a text
+abbrev pub write-of : Write → ℕ × List ℕ
+write-of w = (w .index, part-bytes (w .text))
+
+abbrev pub told-write : Result Write ℕ → Result (ℕ × List ℕ) ℕ
+told-write (Ok w) = Ok (write-of w)
+told-write (Err place) = Err place
+
+abbrev pub indices-ahead : Indices → List ℕ
+indices-ahead c = ahead 1 index-group (c .left) (fields-left (c .fields))
+
+abbrev pub writes-ahead : Writes → List (ℕ × List ℕ)
+writes-ahead c = ahead 2 write-group (c .left) (fields-left (c .fields))
+
+abbrev pub codes-ahead : Codes → List Code
+codes-ahead c = ahead 1 code-group (c .left) (fields-left (c .fields))
