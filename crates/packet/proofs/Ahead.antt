@@ -1,17 +1,18 @@
 -- Groups in a row.
 use mathlib.Core.Path.{_≡_, refl, ap, _∙_, sym}
 use mathlib.Core.List.{List, [], _∷_}
-use mathlib.Core.Bool.{cond}
+use mathlib.Core.Bool.{true, false, cond}
 use Prim.Native.Nat.{ℕ, zero, suc, _+_, _-_, _*_, _<_, _≤_}
 use native.Mathlib.Omega.{arith}
 use native.Mathlib.Nat.{mul-suc, mul-zero}
+use native.Mathlib.Numerals.{add-one}
 use lib.Dec.{eqb}
 use lib.ListN.{length, drop}
 use Rattle.std.specs.declared.option.Option.{Option}
 use Rattle.std.specs.declared.option.Option.the-variants.{Some, None}
 use Rattle.std.specs.declared.result.Result.{Result}
 use Rattle.std.specs.declared.result.Result.the-variants.{Ok, Err}
-use Rattle.std.proofs.shelf.Tests.{ne-eqb, eq-eqb}
+use Rattle.std.proofs.shelf.Tests.{ne-eqb, eq-eqb, true≢false, false≢true}
 use Rattle.field.specs.Fields.{first}
 use Rattle.packet.specs.Groups.{or-within, in-front, if-group, groups, ahead}
 
@@ -107,3 +108,39 @@ module _ {X : Type 0} (width : ℕ) (group : List (List ℕ) → Result X ℕ) w
         groups-step k least most fs (b .x) (b .is)
         ∙ ap (in-front (b .x)) (groups-broken n (k + width) (least - 1) most (drop width fs) place (b .rest) some (omega arith) e)
         ∙ ap Err (further n k place)
+
+-- n groups of `all` are read, and `rest` is what is left
+abbrev pub Passed : {X : Type 0} → ℕ → (List (List ℕ) → Result X ℕ) → ℕ → List (List ℕ) → List (List ℕ) → Type 0
+Passed width group n all rest = (rest ≡ past width n all) × (length (ahead width group n all) ≡ n)
+
+nonempty : (fs gs : List (List ℕ)) → fs ≡ gs → false ≡ eqb (length fs) 0 → 0 < length gs
+nonempty fs [] e t = absurd (false≢true (t ∙ ap (λ l. eqb (length l) 0) e))
+nonempty fs (g ∷ gs) e t = omega arith
+
+empty : (fs gs : List (List ℕ)) → fs ≡ gs → true ≡ eqb (length fs) 0 → gs ≡ []
+empty fs [] e t = refl
+empty fs (g ∷ gs) e t = absurd (true≢false (t ∙ ap (λ l. eqb (length l) 0) e ∙ ne-eqb (length (g ∷ gs)) 0 (λ z. omega arith)))
+
+module _ {X : Type 0} (width : ℕ) (group : List (List ℕ) → Result X ℕ) (n : ℕ) (all rest : List (List ℕ)) (p : Passed width group n all rest) where
+  pub passed-more : (x : X) (behind : List (List ℕ)) → Ok x ≡ group rest → behind ≡ drop width rest → Passed width group (n + 1) all behind
+  passed-more x behind e d =
+      let k : n + 1 ≡ suc n = add-one n in
+      rw k (d ∙ ap (drop width) (p .0) ∙ sym (past-more width n all), ahead-more width group n all x (p .1) (e ∙ ap group (p .0)))
+
+  module _ (none : group [] ≡ Err 0) where
+    pub passed-over : (k least : ℕ) → false ≡ eqb (length rest) 0 → Err (k + width * n) ≡ groups width group k least all n
+    passed-over k least t = sym (groups-over width group none n k least all (p .1) (nonempty rest (past width n all) (p .0) t))
+
+    pub passed-broken : (k least most place : ℕ) → false ≡ eqb (length rest) 0 → n < most → Err place ≡ group rest → Err (k + width * n + place) ≡ groups width group k least all most
+    passed-broken k least most place t room e = sym (groups-broken width group none n k least most all place (p .1) (nonempty rest (past width n all) (p .0) t) room (e ∙ ap group (p .0)))
+
+    pub passed-all : (k least most : ℕ) → true ≡ eqb (length rest) 0 → least ≤ n → n ≤ most → Ok (ahead width group n all) ≡ groups width group k least all most
+    passed-all k least most t low high = sym (groups-all width group none n k least most all (p .1) (empty rest (past width n all) (p .0) t) low high)
+
+    pub passed-short : (k least most : ℕ) → true ≡ eqb (length rest) 0 → n < least → n ≤ most → Err (k + width * n) ≡ groups width group k least all most
+    passed-short k least most t low high = sym (groups-short width group none n k least most all (p .1) (empty rest (past width n all) (p .0) t) low high)
+
+-- some group is read where there is a field
+pub passed-some : {X : Type 0} (width : ℕ) (group : List (List ℕ) → Result X ℕ) (n : ℕ) (all rest : List (List ℕ)) → Passed width group n all rest → true ≡ eqb (length rest) 0 → 0 < length all → 1 ≤ n
+passed-some width group zero all rest p t some = let e = empty rest all (p .0) t in absurd (omega (arith, ap length e))
+passed-some width group (suc n) all rest p t some = omega arith

@@ -27,3 +27,15 @@ writes-ahead c = ahead 2 write-group (c .left) (fields-left (c .fields))
 
 abbrev pub codes-ahead : Codes → List Code
 codes-ahead c = ahead 1 code-group (c .left) (fields-left (c .fields))
+
+abbrev pub told-indices : Result Indices ℕ → Result (List ℕ) ℕ
+told-indices (Ok c) = Ok (indices-ahead c)
+told-indices (Err k) = Err k
+
+abbrev pub told-writes : Result Writes ℕ → Result (List (ℕ × List ℕ)) ℕ
+told-writes (Ok c) = Ok (writes-ahead c)
+told-writes (Err k) = Err k
+
+abbrev pub told-codes : Result Codes ℕ → Result (List Code) ℕ
+told-codes (Ok c) = Ok (codes-ahead c)
+told-codes (Err k) = Err k

@@ -3,5 +3,7 @@
 
 pub mod groups;
 mod head;
+pub mod packet;
+mod payload;
 mod rules;
 pub mod words;

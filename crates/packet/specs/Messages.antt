@@ -1,0 +1,61 @@
+-- What a packet says: `packet-of` reads any bytes as a message, or tells the ground on which they are
+-- refused.
+use mathlib.Core.List.{List}
+use Prim.Native.Nat.{ℕ}
+use lib.ListN.{drop}
+use Rattle.std.specs.declared.result.Result.{Result}
+use Rattle.std.specs.declared.result.Result.the-variants.{Ok, Err}
+use Rattle.protocol.specs.declared.code.Code.{Code}
+use Rattle.protocol.specs.declared.refusal.Refusal.{Refusal}
+use Rattle.protocol.specs.declared.refusal.Refusal.the-variants as R
+use Rattle.field.specs.Frames.{fields-of}
+use Rattle.packet.specs.declared.words.Version.{Version}
+use Rattle.packet.specs.declared.words.Direction.{Direction}
+use Rattle.packet.specs.declared.words.Direction.the-variants.{Request, Answer}
+use Rattle.packet.specs.declared.words.Command.{Command}
+use Rattle.packet.specs.declared.words.Command.the-variants.{Read, Write, Discovery}
+use Rattle.packet.specs.declared.head.Head.{Head}
+use Rattle.packet.specs.Heads.{head-of}
+use Rattle.packet.specs.Groups.{index-group, write-group, code-group, groups, discovery-of}
+
+-- what is asked or answered
+pub data Content : Type 0 where
+  read-request : List ℕ → Content
+  write-request : List (ℕ × List ℕ) → Content
+  discovery-request : Content
+  write-answer : List Code → Content
+
+pub record Message : Type 0 where
+  pub version : Version
+  pub number : ℕ
+  pub content : Content
+
+-- what comes of a payload that is read
+abbrev pub with-ok : {X Y E : Type 0} → (X → Y) → Result X E → Result Y E
+with-ok f (Ok x) = Ok (f x)
+with-ok f (Err e) = Err e
+
+-- the payload's fields, read as direction and command say, or the first of them at fault
+abbrev pub content-by : Direction → Command → List (List ℕ) → Result Content ℕ
+content-by Request Read fs = with-ok read-request (groups 1 index-group 4 1 fs 10)
+content-by Request Write fs = with-ok write-request (groups 2 write-group 4 1 fs 10)
+content-by Request Discovery fs = with-ok (λ _. discovery-request) (discovery-of fs)
+content-by Answer Read fs = Err 4
+content-by Answer Write fs = with-ok write-answer (groups 1 code-group 4 1 fs 10)
+content-by Answer Discovery fs = Err 4
+
+-- a head with the payload behind it
+abbrev pub message-by : Head → Result Content ℕ → Result Message Refusal
+message-by head (Err field) = Err (R.Payload field)
+message-by head (Ok content) = Ok (record { version = head .version; number = head .number; content = content })
+
+abbrev pub after-head : List (List ℕ) → Result Head Refusal → Result Message Refusal
+after-head payload (Err refusal) = Err refusal
+after-head payload (Ok head) = message-by head (content-by (head .direction) (head .command) payload)
+
+abbrev pub after-frame : Result (List (List ℕ)) Refusal → Result Message Refusal
+after-frame (Err refusal) = Err refusal
+after-frame (Ok fs) = after-head (drop 4 fs) (head-of fs)
+
+abbrev pub packet-of : List ℕ → Result Message Refusal
+packet-of bytes = after-frame (fields-of bytes)
