@@ -44,3 +44,9 @@ small-digit n h = let e : n % 10 ≡ n = omega arith in decimal-digit n h ∙ ap
 
 pub decimal-longer : (n : ℕ) → 10 ≤ n → n < 2 ^ 64 → length (decimal n) ≡ length (decimal (n / 10)) + 1
 decimal-longer n h f = ap length (decimal-step n h f) ∙ length-push (decimal (n / 10)) (48 + n % 10)
+
+-- what stands up to the end of a write
+pub take-put : (xs : List ℕ) (at : ℕ) (ys : List ℕ) → at ≤ length xs → take (at + length ys) (put-at xs at ys) ≡ take at xs ++ ys
+take-put xs at ys h =
+    let l : length (take at xs ++ ys) ≡ at + length ys = length-append (take at xs) ys ∙ ap (λ n. n + length ys) (length-take-le at xs h) in
+    ap (take (at + length ys)) (sym (append-assoc (take at xs) ys (drop (at + length ys) xs))) ∙ take-at (take at xs ++ ys) (drop (at + length ys) xs) (at + length ys) l

@@ -3,7 +3,7 @@ ghost use mathlib.Core.Path.{_≡_};
 ghost use Rattle.protocol.specs.Words.{kind-word, kind-named, kind-number};
 
 /// The type of a value. Nil, which stands for no value in a packet's answer, is none of them.
-#[derive(Clone, Copy, PartialEq, Eq, Debug)]
+#[derive(Clone, Copy)]
 pub enum Kind {
     /// True or False.
     Bo,

@@ -4,7 +4,7 @@ ghost use Rattle.protocol.specs.Words.{refusal-number, refusal-field};
 
 /// Why a call is turned down. A refused call changes nothing. Where several grounds hold, the one
 /// with the lowest number is told.
-#[derive(Clone, Copy, PartialEq, Eq, Debug)]
+#[derive(Clone, Copy)]
 pub enum Refusal {
     /// The time is below one that the station accepted, or above 10^15.
     Time,

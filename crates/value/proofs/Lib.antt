@@ -1,0 +1,4 @@
+pub mod Wholes
+pub mod Signs
+pub mod Reals
+pub mod Readings
