@@ -10,6 +10,7 @@ use Rattle.protocol.specs.declared.refusal.Refusal.{Refusal}
 use Rattle.field.specs.Fields.{first}
 use Rattle.packet.specs.declared.head.Head.{Head}
 use Rattle.packet.specs.Heads.{head-by, head-of}
+use Rattle.packet.specs.Groups.{Readout, reading-by, reading-group}
 
 -- what is left after each of four fields
 module _ (f₀ f₁ f₂ f₃ : List (List ℕ)) (a : f₁ ≡ drop 1 f₀) (b : f₂ ≡ drop 1 f₁) (d : f₃ ≡ drop 1 f₂) where
@@ -24,3 +25,6 @@ module _ (f₀ f₁ f₂ f₃ : List (List ℕ)) (a : f₁ ≡ drop 1 f₀) (b :
 
 pub head-from : {h : Result Head Refusal} (fs : List (List ℕ)) (v d n m : Option (List ℕ)) → h ≡ head-by v d n m → v ≡ first fs → d ≡ first (drop 1 fs) → n ≡ first (drop 2 fs) → m ≡ first (drop 3 fs) → h ≡ head-of fs
 head-from fs v d n m told p q r s = told ∙ (λ i. head-by (p i) (q i) (r i) (s i))
+
+pub reading-from : {x : Result Readout ℕ} (fs : List (List ℕ)) (code word text : Option (List ℕ)) → x ≡ reading-by code word text → code ≡ first fs → word ≡ first (drop 1 fs) → text ≡ first (drop 2 fs) → x ≡ reading-group fs
+reading-from fs code word text told p q r = told ∙ (λ i. reading-by (p i) (q i) (r i))

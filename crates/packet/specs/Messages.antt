@@ -16,14 +16,16 @@ use Rattle.packet.specs.declared.words.Command.{Command}
 use Rattle.packet.specs.declared.words.Command.the-variants.{Read, Write, Discovery}
 use Rattle.packet.specs.declared.head.Head.{Head}
 use Rattle.packet.specs.Heads.{head-of}
-use Rattle.packet.specs.Groups.{index-group, write-group, code-group, groups, discovery-of}
+use Rattle.packet.specs.Groups.{index-group, write-group, code-group, reading-group, Readout, groups, discovery-of}
 
 -- what is asked or answered
 pub data Content : Type 0 where
   read-request : List ℕ → Content
   write-request : List (ℕ × List ℕ) → Content
   discovery-request : Content
+  read-answer : List Readout → Content
   write-answer : List Code → Content
+  discovery-answer : List Readout → Content
 
 pub record Message : Type 0 where
   pub version : Version
@@ -40,9 +42,9 @@ abbrev pub content-by : Direction → Command → List (List ℕ) → Result Con
 content-by Request Read fs = with-ok read-request (groups 1 index-group 4 1 fs 10)
 content-by Request Write fs = with-ok write-request (groups 2 write-group 4 1 fs 10)
 content-by Request Discovery fs = with-ok (λ _. discovery-request) (discovery-of fs)
-content-by Answer Read fs = Err 4
+content-by Answer Read fs = with-ok read-answer (groups 3 reading-group 4 1 fs 10)
 content-by Answer Write fs = with-ok write-answer (groups 1 code-group 4 1 fs 10)
-content-by Answer Discovery fs = Err 4
+content-by Answer Discovery fs = with-ok discovery-answer (groups 3 reading-group 4 2 fs 2)
 
 -- a head with the payload behind it
 abbrev pub message-by : Head → Result Content ℕ → Result Message Refusal

@@ -5,16 +5,18 @@ use Rattle.std.specs.declared.result.Result.{Result}
 use Rattle.std.specs.declared.result.Result.the-variants.{Ok, Err}
 use Rattle.protocol.specs.declared.refusal.Refusal.{Refusal}
 use Rattle.packet.specs.declared.packet.Body.{Body}
-use Rattle.packet.specs.declared.packet.Body.the-variants.{ReadRequest, WriteRequest, DiscoveryRequest, WriteAnswer}
+use Rattle.packet.specs.declared.packet.Body.the-variants.{ReadRequest, WriteRequest, DiscoveryRequest, ReadAnswer, WriteAnswer, DiscoveryAnswer}
 use Rattle.packet.specs.declared.packet.Packet.{Packet}
-use Rattle.packet.specs.Cursors.{indices-ahead, writes-ahead, codes-ahead}
-use Rattle.packet.specs.Messages.{Content, read-request, write-request, discovery-request, write-answer, Message}
+use Rattle.packet.specs.Cursors.{indices-ahead, writes-ahead, codes-ahead, readings-ahead}
+use Rattle.packet.specs.Messages.{Content, read-request, write-request, discovery-request, read-answer, write-answer, discovery-answer, Message}
 
 abbrev pub content-of : Body → Content
 content-of (ReadRequest c) = read-request (indices-ahead c)
 content-of (WriteRequest c) = write-request (writes-ahead c)
 content-of DiscoveryRequest = discovery-request
+content-of (ReadAnswer c) = read-answer (readings-ahead c)
 content-of (WriteAnswer c) = write-answer (codes-ahead c)
+content-of (DiscoveryAnswer c) = discovery-answer (readings-ahead c)
 
 abbrev pub told-body : Result Body ℕ → Result Content ℕ
 told-body (Ok body) = Ok (content-of body)

@@ -2,14 +2,17 @@
 use mathlib.Core.Bool.{Bool, false, cond}
 use mathlib.Core.List.{List}
 use Prim.Native.Nat.{ℕ}
+use Rattle.std.specs.Options.{mapped}
 use Rattle.std.specs.declared.option.Option.{Option}
 use Rattle.std.specs.declared.option.Option.the-variants.{Some, None}
 use Rattle.std.specs.declared.result.Result.{Result}
 use Rattle.std.specs.declared.result.Result.the-variants.{Err}
 use Rattle.std.specs.shelf.Text.{sameBytes}
 use Rattle.protocol.specs.declared.code.Code.{Code}
+use Rattle.protocol.specs.declared.kind.Kind.{Kind}
 use Rattle.protocol.specs.Texts.{sized}
 use Rattle.protocol.specs.Words.{code-numbered}
+use Rattle.value.specs.Values.{value-read}
 use Rattle.field.specs.declared.part.Part.{Part}
 use Rattle.field.specs.Numerals.{numeral}
 use Rattle.field.specs.Parts.{Found}
@@ -40,6 +43,10 @@ sized-text field = cond (sized field) (Some field) None
 -- an answer code, 0 to 3
 abbrev pub code-of : List ℕ → Option Code
 code-of field = then (numeral 3 field) code-numbered
+
+-- a text that writes a value of the type
+abbrev pub value-text : Kind → List ℕ → Option (List ℕ)
+value-text kind field = mapped (λ _. field) (value-read kind field)
 
 -- in whichever packet the one part stands, so does the other
 abbrev pub Passes : Option Part → Option Part → Type 0

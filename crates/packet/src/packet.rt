@@ -7,6 +7,7 @@ ghost use Rattle.packet.specs.Messages.{content-by, packet-of};
 ghost use Rattle.packet.specs.Packets.{told-body, seen};
 use crate::groups::Codes;
 use crate::groups::Indices;
+use crate::groups::Readings;
 use crate::groups::Writes;
 use crate::head::read_head;
 use crate::payload::read_discovery;
@@ -24,7 +25,9 @@ pub enum Body<'a> {
     ReadRequest(Indices<'a>),
     WriteRequest(Writes<'a>),
     DiscoveryRequest,
+    ReadAnswer(Readings<'a>),
     WriteAnswer(Codes<'a>),
+    DiscoveryAnswer(Readings<'a>),
 }
 
 /// A packet that follows the rules.
@@ -47,8 +50,13 @@ fn read_body<'a>(direction: Direction, command: Command, payload: Part<'a>) -> R
             read_discovery(payload)?;
             Ok(Body::DiscoveryRequest)
         }
+        (Direction::Answer, Command::Read) => {
+            Ok(Body::ReadAnswer(Readings::read(payload, 1, 10)?))
+        }
         (Direction::Answer, Command::Write) => Ok(Body::WriteAnswer(Codes::read(payload)?)),
-        (Direction::Answer, _) => Err(4),
+        (Direction::Answer, Command::Discovery) => {
+            Ok(Body::DiscoveryAnswer(Readings::read(payload, 2, 2)?))
+        }
     }
 }
 

@@ -1,12 +1,15 @@
 //! The rules of single fields, each of which may be missing.
 ghost use mathlib.Core.Path.{_≡_};
 ghost use Rattle.std.specs.Options.{mapped};
+ghost use Rattle.protocol.specs.Words.{kind-named};
 ghost use Rattle.field.specs.Numerals.{numeral};
 ghost use Rattle.field.specs.Parts.{part-bytes};
-ghost use Rattle.packet.specs.Rules.{ruled, is-word, sized-text, code-of, Passes};
+ghost use Rattle.packet.specs.Rules.{ruled, is-word, sized-text, code-of, value-text, Passes};
 use field::number::number;
 use field::part::Part;
 use protocol::code::Code;
+use protocol::kind::Kind;
+use value::read::read_value;
 
 /// Whether the field is this word.
 pub(crate) fn is_word(field: Option<Part<'_>>, word: &str) -> bool
@@ -43,4 +46,23 @@ pub(crate) fn code_in(field: Option<Part<'_>>) -> Option<Code>
     ensures { λ r. ⌜ r ≡ ruled code-of (mapped part-bytes (field .entry)) ⌝ }
 {
     Code::numbered(number_in(field, 3)?)
+}
+
+/// The type that the field names.
+pub(crate) fn kind_in(field: Option<Part<'_>>) -> Option<Kind>
+    ensures { λ r. ⌜ r ≡ ruled kind-named (mapped part-bytes (field .entry)) ⌝ }
+{
+    Kind::named(field?.text)
+}
+
+/// The field, if it writes a value of the type.
+pub(crate) fn value_in<'a>(kind: Kind, field: Option<Part<'a>>) -> Option<Part<'a>>
+    ensures text { λ r. ⌜ mapped part-bytes r ≡ ruled (value-text kind) (mapped part-bytes (field .entry)) ⌝ }
+    ensures place { λ r. ⌜ Passes (field .entry) r ⌝ }
+{
+    let part = field?;
+    match read_value(kind, part.text.as_bytes()) {
+        Some(_) => Some(part),
+        None => None,
+    }
 }

@@ -3,21 +3,21 @@ ghost use mathlib.Core.Path.{_≡_};
 ghost use Rattle.packet.specs.Words.{version-word, version-named, direction-word, direction-named, command-number, command-numbered};
 
 /// The version of the protocol that a packet follows.
-#[derive(Clone, Copy, PartialEq, Eq, Debug)]
+#[derive(Clone, Copy)]
 pub enum Version {
     V10,
     V11,
 }
 
 /// Whether a packet asks or answers.
-#[derive(Clone, Copy, PartialEq, Eq, Debug)]
+#[derive(Clone, Copy)]
 pub enum Direction {
     Request,
     Answer,
 }
 
 /// What a packet is about.
-#[derive(Clone, Copy, PartialEq, Eq, Debug)]
+#[derive(Clone, Copy)]
 pub enum Command {
     Read,
     Write,
