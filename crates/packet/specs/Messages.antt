@@ -2,7 +2,7 @@
 -- refused.
 use mathlib.Core.List.{List}
 use Prim.Native.Nat.{ℕ}
-use lib.ListN.{drop}
+use lib.ListN.{length, drop}
 use Rattle.std.specs.declared.result.Result.{Result}
 use Rattle.std.specs.declared.result.Result.the-variants.{Ok, Err}
 use Rattle.protocol.specs.declared.code.Code.{Code}
@@ -31,6 +31,31 @@ pub record Message : Type 0 where
   pub version : Version
   pub number : ℕ
   pub content : Content
+
+abbrev pub direction-of : Content → Direction
+direction-of (read-request is) = Request
+direction-of (write-request ws) = Request
+direction-of discovery-request = Request
+direction-of (read-answer xs) = Answer
+direction-of (write-answer cs) = Answer
+direction-of (discovery-answer xs) = Answer
+
+abbrev pub command-of : Content → Command
+command-of (read-request is) = Read
+command-of (write-request ws) = Write
+command-of discovery-request = Discovery
+command-of (read-answer xs) = Read
+command-of (write-answer cs) = Write
+command-of (discovery-answer xs) = Discovery
+
+-- how many groups there are
+abbrev pub count-of : Content → ℕ
+count-of (read-request is) = length is
+count-of (write-request ws) = length ws
+count-of discovery-request = 2
+count-of (read-answer xs) = length xs
+count-of (write-answer cs) = length cs
+count-of (discovery-answer xs) = length xs
 
 -- what comes of a payload that is read
 abbrev pub with-ok : {X Y E : Type 0} → (X → Y) → Result X E → Result Y E
