@@ -1,37 +1,27 @@
 -- Numerals, against what `parse` reads and what `decimal` writes.
-use mathlib.Core.Path.{_≡_, refl, ap, _∙_, sym}
-use mathlib.Core.Bool.{Bool, true, false, cond, _&&_}
-use mathlib.Core.List.{List, [], _∷_, _++_}
-use Prim.Native.Nat.{ℕ, suc, _<_, _≤_, _^_}
+use mathlib.Core.Path.{_≡_, ap, _∙_, sym}
+use mathlib.Core.Bool.{true, cond, _&&_}
+use mathlib.Core.List.{List, [], _∷_}
+use Prim.Native.Nat.{ℕ, _<_, _≤_, _^_}
 use native.Mathlib.Omega.{arith}
 use lib.Dec.{eqb, leb}
 use lib.ListN.{length, getD}
-use borrow.Author.Needs.{needs}
-use Rattle.std.specs.declared.option.Option.{Option}
 use Rattle.std.specs.declared.option.Option.the-variants.{Some, None}
-use Rattle.std.specs.Reads.{value}
+use Rattle.std.specs.Reads.{value, ReadsUnsigned}
 use Rattle.std.specs.Written.{decimal}
 use Rattle.std.specs.shelf.Text.{allDigits}
-use Rattle.std.proofs.shelf.Tests.{and-parts, and-from, eqb-true, eq-eqb, ne-eqb, cases-bool, cases-eq, leb-true, le-leb, true≢false}
-use Rattle.std.proofs.shelf.Ways.{tells}
-use Rattle.std.proofs.shelf.Numerals.{Numerals, numerals-by-value, tells-allDigits}
+use Rattle.std.proofs.shelf.Tests.{and-parts, and-from, eq-eqb, ne-eqb, cases-bool, cases-eq, leb-true, le-leb, true≢false, cases-lt, lt-leb}
 use Rattle.std.proofs.shelf.Decimals.{decimal-some, first-decimal, digits-decimal, value-decimal, length-decimal-le}
-use mathlib.Core.Logic.{⊎-elim, inl, inr}
-use Prim.Native.Nat.{_+_}
-use mathlib.Core.Logic.{_⊎_}
+use mathlib.Core.Logic.{⊎-elim, inl, inr, _⊎_}
 use Rattle.std.specs.declared.result.Result.{Result}
 use Rattle.std.specs.declared.result.Result.the-variants.{Ok, Err}
 use Rattle.std.specs.Results.{Cases as ByOk}
-use Rattle.std.specs.Reads.{ReadsUnsigned}
 use Rattle.std.proofs.shelf.Numerals.{parse-plain}
-use Rattle.std.proofs.shelf.Tests.{cases-lt, lt-leb}
+use Rattle.protocol.proofs.Digits.{own}
 use Rattle.field.specs.Numerals.{none, whole, numeral}
 
 cases-le : (a b : ℕ) → (a ≤ b) ⊎ (b < a)
 cases-le a b = ⊎-elim (λ l. inr l) (λ l. inl l) (cases-lt b a)
-
-pub own : Numerals (λ ds. allDigits ds ≡ true) (value 10)
-own = numerals-by-value _ tells-allDigits
 
 -- what `whole` tests
 pub record Whole (ds : List ℕ) : Type 0 where

@@ -11,8 +11,7 @@ use Rattle.std.specs.declared.option.Option.{Option}
 use Rattle.std.specs.declared.option.Option.the-variants.{Some, None}
 use Rattle.std.proofs.shelf.Lists.{take-at, take-take, drop-at, drop-drop, drop-take}
 use Rattle.std.proofs.shelf.Patterns.{SplitAt, split-parts}
-use Rattle.std.proofs.shelf.Tests.{ne-eqb, eq-eqb, cond-both}
-use mathlib.Core.Bool.{true, false}
+use Rattle.std.proofs.shelf.Tests.{ne-eqb, cond-both}
 use Rattle.field.specs.Fields.{fields, onto}
 
 -- the byte c is not in bs

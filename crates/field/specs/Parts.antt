@@ -33,10 +33,6 @@ Found packet (Some p) = Stands packet p
 abbrev pub Within : List ℕ → Fields → Type 0
 Within packet f = Found packet (f .rest)
 
--- in whichever packet the part stands, so does the cursor
-abbrev pub Keeps : Part → Fields → Type 0
-Keeps p f = (packet : List ℕ) → Stands packet p → Within packet f
-
 -- in whichever packet the cursor stands, so does the part that it hands out
 abbrev pub Hands : Fields → Option Part → Type 0
 Hands f p = (packet : List ℕ) → Within packet f → Found packet p

@@ -3,32 +3,17 @@ ghost use mathlib.Core.Path.{_≡_};
 ghost use lib.Dec.{eqb};
 ghost use lib.ListN.{length, drop};
 ghost use Rattle.std.specs.Options.{mapped};
-ghost use Rattle.field.specs.Fields.{fields, first};
-ghost use Rattle.field.specs.Parts.{part-bytes, fields-left, Hands, Onward, Keeps};
+ghost use Rattle.field.specs.Fields.{first};
+ghost use Rattle.field.specs.Parts.{part-bytes, fields-left, Hands, Onward};
 use crate::part::Part;
 
 /// The fields of a packet that are still to come: those of the rest, if there is one.
 #[derive(Clone, Copy)]
 pub struct Fields<'a> {
-    pub(crate) rest: Option<Part<'a>>,
+    pub rest: Option<Part<'a>>,
 }
 
 impl<'a> Fields<'a> {
-    /// The fields of a part.
-    pub fn of(part: Part<'a>) -> Fields<'a>
-        ensures fields { λ r. ⌜ fields-left r ≡ fields (part-bytes (part .entry)) ⌝ }
-        ensures place { λ r. ⌜ Keeps (part .entry) r ⌝ }
-    {
-        Fields { rest: Some(part) }
-    }
-
-    /// What stands behind the fields that were handed out, if anything does.
-    pub fn rest(&self) -> Option<Part<'a>>
-        ensures { λ r. ⌜ r ≡ now (self .entry) .rest ⌝ }
-    {
-        self.rest
-    }
-
     /// Whether no field is left.
     pub fn is_empty(&self) -> bool
         ensures { λ r. ⌜ r ≡ eqb (length (fields-left (now (self .entry)))) 0 ⌝ }

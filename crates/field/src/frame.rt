@@ -56,5 +56,6 @@ pub fn fields_of(packet: &[u8]) -> Result<Fields<'_>, Refusal>
         return Err(Refusal::NotUtf8);
     };
     let end = packet.len() - 1;
-    Ok(Fields::of(Part { text, end }))
+    let rest = Some(Part { text, end });
+    Ok(Fields { rest })
 }

@@ -1,20 +1,19 @@
 -- Groups in a row.
 use mathlib.Core.Path.{_≡_, refl, ap, _∙_, sym}
 use mathlib.Core.List.{List, [], _∷_}
-use mathlib.Core.Bool.{true, false, cond}
+use mathlib.Core.Bool.{true, false}
 use Prim.Native.Nat.{ℕ, zero, suc, _+_, _-_, _*_, _<_, _≤_}
 use native.Mathlib.Omega.{arith}
 use native.Mathlib.Nat.{mul-suc, mul-zero}
 use native.Mathlib.Numerals.{add-one}
 use lib.Dec.{eqb}
 use lib.ListN.{length, drop}
-use Rattle.std.specs.declared.option.Option.{Option}
-use Rattle.std.specs.declared.option.Option.the-variants.{Some, None}
+use Rattle.std.specs.declared.option.Option.the-variants.{Some}
 use Rattle.std.specs.declared.result.Result.{Result}
 use Rattle.std.specs.declared.result.Result.the-variants.{Ok, Err}
 use Rattle.std.proofs.shelf.Tests.{ne-eqb, eq-eqb, true≢false, false≢true}
 use Rattle.field.specs.Fields.{first}
-use Rattle.packet.specs.Groups.{or-within, in-front, if-group, groups, ahead}
+use Rattle.packet.specs.Groups.{in-front, if-group, groups, ahead}
 
 -- what is left after n groups
 abbrev pub past : ℕ → ℕ → List (List ℕ) → List (List ℕ)

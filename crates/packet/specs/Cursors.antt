@@ -8,13 +8,13 @@ use Rattle.std.specs.declared.result.Result.the-variants.{Ok, Err}
 use Rattle.protocol.specs.declared.code.Code.{Code}
 use Rattle.field.specs.declared.part.Part.{Part}
 use Rattle.field.specs.Parts.{part-bytes, fields-left}
-use Rattle.packet.specs.declared.groups.Write.{Write}
-use Rattle.packet.specs.declared.groups.Indices.{Indices}
-use Rattle.packet.specs.declared.groups.Writes.{Writes}
-use Rattle.packet.specs.declared.groups.Codes.{Codes}
-use Rattle.packet.specs.declared.groups.Reading.{Reading}
-use Rattle.packet.specs.declared.groups.Reading.the-variants.{Found, Lacking}
-use Rattle.packet.specs.declared.groups.Readings.{Readings}
+use Rattle.packet.specs.declared.writes.Write.{Write}
+use Rattle.packet.specs.declared.indices.Indices.{Indices}
+use Rattle.packet.specs.declared.writes.Writes.{Writes}
+use Rattle.packet.specs.declared.codes.Codes.{Codes}
+use Rattle.packet.specs.declared.readings.Reading.{Reading}
+use Rattle.packet.specs.declared.readings.Reading.the-variants.{Found, Lacking}
+use Rattle.packet.specs.declared.readings.Readings.{Readings}
 use Rattle.packet.specs.Groups.{index-group, write-group, code-group, reading-group, Readout, found, lacking, ahead}
 
 -- an index and a text

@@ -7,16 +7,16 @@ use lib.ListN.{drop}
 use Rattle.std.specs.declared.option.Option.{Option}
 use Rattle.std.specs.declared.option.Option.the-variants.{Some, None}
 use Rattle.std.specs.declared.result.Result.{Result}
-use Rattle.std.specs.declared.result.Result.the-variants.{Ok, Err}
+use Rattle.std.specs.declared.result.Result.the-variants.{Ok}
 use Rattle.protocol.specs.declared.refusal.Refusal.{Refusal}
 use Rattle.protocol.specs.declared.refusal.Refusal.the-variants as R
 use Rattle.field.specs.Fields.{first}
 use Rattle.field.specs.Numerals.{numeral}
-use Rattle.packet.specs.declared.words.Version.{Version}
-use Rattle.packet.specs.declared.words.Version.the-variants.{V10, V11}
+use Rattle.field.specs.declared.words.Version.{Version}
+use Rattle.field.specs.declared.words.Version.the-variants.{V10, V11}
 use Rattle.packet.specs.declared.head.Head.{Head}
 use Rattle.packet.specs.Rules.{ruled, then, or-fault, is-word}
-use Rattle.packet.specs.Words.{version-named, direction-named, command-numbered}
+use Rattle.field.specs.Words.{version-named, direction-named, command-numbered}
 
 -- a version may be 1.0 only beside a command other than 3
 abbrev pub not-old : Option (List ℕ) → Version → Option Version

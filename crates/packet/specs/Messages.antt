@@ -9,11 +9,11 @@ use Rattle.protocol.specs.declared.code.Code.{Code}
 use Rattle.protocol.specs.declared.refusal.Refusal.{Refusal}
 use Rattle.protocol.specs.declared.refusal.Refusal.the-variants as R
 use Rattle.field.specs.Frames.{fields-of}
-use Rattle.packet.specs.declared.words.Version.{Version}
-use Rattle.packet.specs.declared.words.Direction.{Direction}
-use Rattle.packet.specs.declared.words.Direction.the-variants.{Request, Answer}
-use Rattle.packet.specs.declared.words.Command.{Command}
-use Rattle.packet.specs.declared.words.Command.the-variants.{Read, Write, Discovery}
+use Rattle.field.specs.declared.words.Version.{Version}
+use Rattle.field.specs.declared.words.Direction.{Direction}
+use Rattle.field.specs.declared.words.Direction.the-variants.{Request, Answer}
+use Rattle.field.specs.declared.words.Command.{Command}
+use Rattle.field.specs.declared.words.Command.the-variants.{Read, Write, Discovery}
 use Rattle.packet.specs.declared.head.Head.{Head}
 use Rattle.packet.specs.Heads.{head-of}
 use Rattle.packet.specs.Groups.{index-group, write-group, code-group, reading-group, Readout, groups, discovery-of}

@@ -13,9 +13,10 @@ use Rattle.protocol.specs.declared.kind.Kind.{Kind}
 use Rattle.protocol.specs.Texts.{sized}
 use Rattle.protocol.specs.Words.{code-numbered}
 use Rattle.value.specs.Values.{value-read}
+use Rattle.field.specs.declared.fields.Fields.{Fields}
 use Rattle.field.specs.declared.part.Part.{Part}
 use Rattle.field.specs.Numerals.{numeral}
-use Rattle.field.specs.Parts.{Found}
+use Rattle.field.specs.Parts.{Stands, Found, Within}
 
 -- what a second rule makes of what a first one gave
 abbrev pub then : {X Y : Type 0} → Option X → (X → Option Y) → Option Y
@@ -51,3 +52,7 @@ value-text kind field = mapped (λ _. field) (value-read kind field)
 -- in whichever packet the one part stands, so does the other
 abbrev pub Passes : Option Part → Option Part → Type 0
 Passes before after = (packet : List ℕ) → Found packet before → Found packet after
+
+-- in whichever packet the part stands, so does the cursor
+abbrev pub Keeps : Part → Fields → Type 0
+Keeps part cursor = (packet : List ℕ) → Stands packet part → Within packet cursor

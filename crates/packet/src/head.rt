@@ -3,16 +3,16 @@ ghost use mathlib.Core.Path.{_≡_};
 ghost use lib.ListN.{drop};
 ghost use Rattle.std.specs.Options.{mapped};
 ghost use Rattle.field.specs.Parts.{part-bytes, fields-left, Onward};
-ghost use Rattle.packet.specs.Words.{direction-named};
+ghost use Rattle.field.specs.Words.{direction-named};
 ghost use Rattle.packet.specs.Rules.{ruled};
 ghost use Rattle.packet.specs.Heads.{version-beside, head-by, head-of};
 use crate::rules::is_word;
 use crate::rules::number_in;
-use crate::words::Command;
-use crate::words::Direction;
-use crate::words::Version;
 use field::fields::Fields;
 use field::part::Part;
+use field::words::Command;
+use field::words::Direction;
+use field::words::Version;
 use protocol::refusal::Refusal;
 
 /// What the head says.

@@ -11,18 +11,18 @@ ghost use Rattle.field.specs.Frames.{fields-of};
 ghost use Rattle.field.specs.Parts.{part-bytes, fields-left, Stands, Hands};
 ghost use Rattle.packet.specs.Messages.{direction-of, command-of, content-by, packet-of};
 ghost use Rattle.packet.specs.Packets.{message-of, told-body, seen, body-count, Counted, Body-within, Packet-within};
-use crate::groups::Codes;
-use crate::groups::Indices;
-use crate::groups::Readings;
-use crate::groups::Writes;
+use crate::codes::Codes;
+use crate::discovery::read_discovery;
 use crate::head::read_head;
-use crate::payload::read_discovery;
-use crate::words::Command;
-use crate::words::Direction;
-use crate::words::Version;
+use crate::indices::Indices;
+use crate::readings::Readings;
+use crate::writes::Writes;
 use field::fields::Fields;
 use field::frame::fields_of;
 use field::part::Part;
+use field::words::Command;
+use field::words::Direction;
+use field::words::Version;
 use protocol::refusal::Refusal;
 
 /// What a packet asks or answers.
@@ -134,7 +134,7 @@ pub fn read_packet(bytes: &[u8]) -> Result<Packet<'_>, Refusal>
     let all = fields_of(bytes)?;
     let mut fields = all;
     let head = read_head(&mut fields)?;
-    let Some(payload) = fields.rest() else {
+    let Some(payload) = fields.rest else {
         return Err(Refusal::Payload(4));
     };
     match read_body(head.direction, head.command, payload) {

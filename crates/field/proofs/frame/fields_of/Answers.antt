@@ -1,5 +1,4 @@
-use mathlib.Core.Path.{sym, ap, _∙_}
-use Rattle.std.specs.declared.result.Result.the-variants.{Ok}
+use mathlib.Core.Path.{sym}
 use Rattle.field.proofs.Braces.{fields-there, no-text, body-ends}
 use Rattle.field.proofs.frame.fields_of.Needs as need
 
@@ -17,6 +16,6 @@ returns c =
     let body = c .in-Some .body .now in
     let text = c .in-Ok .text .now in
     record {
-      fields = ap Ok (c .of .ensures .fields) ∙ sym (fields-there bs body (c .if-packet-gt512 .left) (c .in-Some .ensures tt) text (told .0) (told .1));
-      place = c .of .ensures .place bs (body-ends bs body (c .if-packet-gt512 .left) (c .in-Some .ensures tt) text (told .0));
+      fields = sym (fields-there bs body (c .if-packet-gt512 .left) (c .in-Some .ensures tt) text (told .0) (told .1));
+      place = body-ends bs body (c .if-packet-gt512 .left) (c .in-Some .ensures tt) text (told .0);
     }

@@ -1,4 +1,4 @@
-use mathlib.Core.Path.{_≡_, ap, _∙_}
+use mathlib.Core.Path.{ap, _∙_}
 use Rattle.field.specs.Fields.{first}
 use Rattle.field.specs.Parts.{fields-left}
 use Rattle.packet.proofs.Steps.{after-two, after-three, after-four, head-from}

@@ -1,4 +1,4 @@
-use mathlib.Core.Path.{sym, subst}
+use mathlib.Core.Path.{subst}
 use borrow.Author.Needs.{needs}
 use Rattle.field.specs.Parts.{Found}
 use Rattle.packet.proofs.packet.read_packet.Needs as need
@@ -12,5 +12,5 @@ returns-in-Ok c =
       read = search needs;
       count = c .in-Ok .ensures tt .count;
       fields = search needs;
-      place = (all, c .in-Ok .ensures tt .place bytes (subst (Found bytes) (sym (c .in-Some .ensures tt)) behind));
+      place = (all, c .in-Ok .ensures tt .place bytes (subst (Found bytes) (c .in-Some .is) behind));
     }
