@@ -1,0 +1,5 @@
+pub mod Words
+pub mod Numerals
+pub mod Fields
+pub mod Frames
+pub mod Parts
