@@ -1,11 +1,15 @@
 //! The commands. The first word of a line names the command.
 //!
 //!     value TYPE BYTES    -> value SPELLING | none
+//!     packet BYTES        -> what the packet says | refused N | refused N FIELD
+use crate::packets::write_packet;
+use crate::packets::write_refusal;
 use crate::trouble::Trouble;
 use crate::trouble::TroubleFromAlloc;
 use crate::words::Words;
 use crate::words::decode;
 use crate::words::encode;
+use packet::packet::read_packet;
 use protocol::kind::Kind;
 use std::alloc::AllocError;
 use std::alloc::Global;
@@ -45,6 +49,7 @@ fn command(heap: Global, line: &[u8], out: &mut Vec<u8>) -> Result<(), Trouble> 
     let mut words = Words::new(line);
     match words.word()? {
         b"value" => value(heap, &mut words, out),
+        b"packet" => packet(heap, &mut words, out),
         _ => Err(Trouble::NotUnderstood),
     }
 }
@@ -68,6 +73,17 @@ fn value(heap: Global, words: &mut Words<'_>, out: &mut Vec<u8>) -> Result<(), T
             encode(value.spelling().as_bytes(), out)?;
         }
         None => out.extend_from_slice(b"none")?,
+    }
+    Ok(())
+}
+
+/// Reads a packet, and tells what it says or why it is refused.
+fn packet(heap: Global, words: &mut Words<'_>, out: &mut Vec<u8>) -> Result<(), Trouble> {
+    let bytes = decode(heap, words.word()?)?;
+    words.end()?;
+    match read_packet(bytes.as_slice()) {
+        Ok(packet) => write_packet(&packet, out)?,
+        Err(refusal) => write_refusal(refusal, out)?,
     }
     Ok(())
 }

@@ -2,6 +2,7 @@
 //! for each. An empty line, and one that begins with `#`, prints nothing; a line that is not understood prints `error`.
 
 mod commands;
+mod packets;
 mod trouble;
 mod words;
 
