@@ -81,7 +81,11 @@ fn write_reading(reading: Reading<'_>, out: &mut Vec<u8>) -> Result<(), AllocErr
 }
 
 /// Writes the groups of a read or Discovery answer.
-pub fn write_readings(mut readings: Readings<'_>, count: u8, out: &mut Vec<u8>) -> Result<(), AllocError> {
+pub fn write_readings(
+    mut readings: Readings<'_>,
+    count: u8,
+    out: &mut Vec<u8>,
+) -> Result<(), AllocError> {
     for _k in 0..count {
         if let Some(reading) = readings.next_reading() {
             write_reading(reading, out)?;
