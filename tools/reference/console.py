@@ -1,35 +1,52 @@
 #!/usr/bin/env python3
 """The console, as docs/PROTOCOL.md has it in section 7: a script on standard input, one answer a line.
 
-    python3 tools/reference/console.py < script
+    python3 tools/reference/console.py [--level NAME] < script
 
-It is a second opinion about the program `console`, and shares no code with it.
+It is a second opinion about the program `console`, and shares no code with it. The level says which
+calls are known (levels.py).
 """
 
 from __future__ import annotations
 
+import importlib
 import sys
 from pathlib import Path
+from typing import Any, Callable, Optional
 
 sys.path.insert(0, str(Path(__file__).resolve().parent))
 
+import levels  # noqa: E402
 import lines  # noqa: E402
-import values  # noqa: E402
+from words import NotUnderstood  # noqa: E402
+
+# The module that has the calls of each level.
+FAMILIES = {"values": "value_calls", "packets": "packet_calls", "box": "box_calls", "catalogue": "catalogue_calls"}
+
+Call = Callable[["Console", list[bytes]], bytes]
 
 
-class NotUnderstood(Exception):
-    """The line is not of the form that its call wants."""
+def calls_at(level: str) -> dict[bytes, Call]:
+    """The first words of lines that are known at a level, and the calls that they name."""
+    calls: dict[bytes, Call] = {}
+    for family in levels.up_to(level):
+        calls.update(importlib.import_module(FAMILIES[family]).CALLS)
+    return calls
 
 
 class Console:
-    """A run of the console. Each call is a method; CALLS names them."""
+    """A run of the console. The stations are kept by their addresses."""
 
-    def answer(self, line: bytes) -> bytes | None:
+    def __init__(self, level: Optional[str] = None) -> None:
+        self.calls = calls_at(levels.or_present(level))
+        self.stations: dict[int, Any] = {}
+
+    def answer(self, line: bytes) -> Optional[bytes]:
         """What is printed for a line, or None if nothing is."""
         if lines.prints_nothing(line):
             return None
         words = lines.words_of(line)
-        call = CALLS.get(words[0]) if words else None
+        call = self.calls.get(words[0]) if words else None
         if call is None:
             return b"error"
         try:
@@ -37,52 +54,19 @@ class Console:
         except NotUnderstood:
             return b"error"
 
-    def value(self, words: list[bytes]) -> bytes:
-        """value TYPE BYTES"""
-        kind, word = exactly(2, words)
-        value = values.read(type_of(kind), bytes_of(word))
-        return b"none" if value is None else b"value " + lines.encode(values.spell(value))
 
-
-# The first word of a line, and the call that it names.
-CALLS = {
-    b"value": Console.value,
-}
-
-TYPES = {kind.encode(): kind for kind in values.KINDS}
-
-
-def exactly(count: int, words: list[bytes]) -> list[bytes]:
-    """The words, if there are this many."""
-    if len(words) != count:
-        raise NotUnderstood
-    return words
-
-
-def type_of(word: bytes) -> str:
-    """The type that a word names, one of the nine types of values."""
-    if word not in TYPES:
-        raise NotUnderstood
-    return TYPES[word]
-
-
-def bytes_of(word: bytes) -> bytes:
-    """The bytes that a word stands for."""
-    text = lines.decode(word)
-    if text is None:
-        raise NotUnderstood
-    return text
-
-
-def run(script: bytes) -> bytes:
+def run(script: bytes, level: Optional[str] = None) -> bytes:
     """Everything that the console prints for a script."""
-    console = Console()
+    console = Console(level)
     answers = (console.answer(line) for line in lines.lines_of(script))
     return b"".join(answer + b"\n" for answer in answers if answer is not None)
 
 
 def main() -> None:
-    sys.stdout.buffer.write(run(sys.stdin.buffer.read()))
+    level, rest = levels.chosen(sys.argv[1:])
+    if rest:
+        sys.exit("usage: console.py [--level NAME] < script")
+    sys.stdout.buffer.write(run(sys.stdin.buffer.read(), level))
 
 
 if __name__ == "__main__":

@@ -1,21 +1,26 @@
 #!/usr/bin/env python3
 """Fresh lines for the console, for comparing the program with the reference.
 
-    python3 tools/reference/random_lines.py SEED COUNT
+    python3 tools/reference/random_lines.py [--level NAME] SEED COUNT
 
-prints COUNT lines of a script. The same SEED and COUNT give the same lines.
+prints COUNT lines of a script. The same level, SEED and COUNT give the same lines. The level says which
+calls they have (levels.py).
 """
 
 from __future__ import annotations
 
+import importlib
 import sys
 from pathlib import Path
+from typing import Callable, Iterator, Optional
 
 sys.path.insert(0, str(Path(__file__).resolve().parent))
 
-import lines  # noqa: E402
+import levels  # noqa: E402
+import packet_texts  # noqa: E402
 import texts  # noqa: E402
 from dice import Dice  # noqa: E402
+from texts import word_for  # noqa: E402
 from values import KINDS  # noqa: E402
 
 NO_TYPES = (b"Nil", b"bo", b"BO", b"Ush", b"USH", b"Int", b"S", b"\\x42o", b"\\e", b"0", b"value")
@@ -24,16 +29,13 @@ BAD_WORDS = (b"\\", b"\\\\", b"\\x", b"\\x4", b"\\x4g", b"\\xC3", b"\\X41", b"\\
 NO_CALLS = (b"valu", b"values", b"Value", b"VALUE", b"val", b"#value", b"\\x76alue", b"value\t", b"none")
 
 
-def word_for(dice: Dice, text: bytes) -> bytes:
-    """A word that stands for these bytes. At times it escapes bytes that need no escape."""
-    if text and dice.once_in(12):
-        return b"".join(b"\\x%02x" % byte if dice.once_in(2) else lines.WRITTEN[byte] for byte in text)
-    return lines.encode(text)
-
-
 def value_line(dice: Dice) -> list[bytes]:
     kind, text = texts.some_value(dice)
     return [b"value", kind.encode(), word_for(dice, text)]
+
+
+def packet_line(dice: Dice) -> list[bytes]:
+    return [b"packet", word_for(dice, packet_texts.some_packet(dice))]
 
 
 def odd_line(dice: Dice) -> list[bytes]:
@@ -59,8 +61,23 @@ def odd_line(dice: Dice) -> list[bytes]:
     return [b"#"] + words
 
 
-def line(dice: Dice) -> bytes:
-    words = odd_line(dice) if dice.once_in(40) else value_line(dice)
+def odd_packet_line(dice: Dice) -> list[bytes]:
+    """The words of a line about a packet that is mostly not understood."""
+    words = packet_line(dice)
+    style = dice.below(5)
+    if style == 0:
+        return words[:1]
+    if style == 1:
+        return words + [dice.pick((b"x", b"\\e", words[1]))]
+    if style == 2:
+        return [words[0], words[1] + dice.pick(BAD_WORDS)]
+    if style == 3:
+        return [dice.pick((b"packe", b"packets", b"Packet", b"packet\t", b"value", b"\\x70acket")), words[1]]
+    return [words[0], dice.pick(BAD_WORDS)]
+
+
+def spaced(dice: Dice, words: list[bytes]) -> bytes:
+    """The line of these words, at times with more spaces than it needs."""
     if not dice.once_in(30):
         return b" ".join(words)
     spaces = (b" ", b"  ", b"     ")
@@ -68,15 +85,51 @@ def line(dice: Dice) -> bytes:
     return dice.pick((b"",) + spaces) + text if dice.once_in(2) else text.rstrip(b" ")
 
 
-def script(seed: int, count: int) -> bytes:
-    dice = Dice(seed)
-    return b"".join(line(dice) + b"\n" for _ in range(count))
+def about_values(dice: Dice) -> Iterator[bytes]:
+    while True:
+        words = odd_line(dice) if dice.once_in(40) else value_line(dice)
+        yield spaced(dice, words)
+
+
+def about_packets(dice: Dice) -> Iterator[bytes]:
+    """Mostly packets, and values now and then."""
+    others = about_values(dice)
+    while True:
+        if dice.once_in(6):
+            yield next(others)
+        else:
+            yield spaced(dice, odd_packet_line(dice) if dice.once_in(40) else packet_line(dice))
+
+
+def about_stations(level: str) -> Callable[[Dice], Iterator[bytes]]:
+    """Scripts of stations at this level, with packets and values between."""
+    traffic = importlib.import_module("traffic")
+
+    def mixed(dice: Dice) -> Iterator[bytes]:
+        others = about_packets(dice)
+        for line in traffic.lines_without_end(dice, level):
+            if dice.once_in(12):
+                yield next(others)
+            yield line
+
+    return mixed
+
+
+def source(level: str) -> Callable[[Dice], Iterator[bytes]]:
+    """Where the lines of a level come from."""
+    return {"values": about_values, "packets": about_packets}.get(level) or about_stations(level)
+
+
+def script(seed: int, count: int, level: Optional[str] = None) -> bytes:
+    fresh = source(levels.or_present(level))(Dice(seed))
+    return b"".join(next(fresh) + b"\n" for _ in range(count))
 
 
 def main() -> None:
-    if len(sys.argv) != 3:
-        sys.exit("usage: random_lines.py SEED COUNT")
-    sys.stdout.buffer.write(script(int(sys.argv[1]), int(sys.argv[2])))
+    level, rest = levels.chosen(sys.argv[1:])
+    if len(rest) != 2:
+        sys.exit("usage: random_lines.py [--level NAME] SEED COUNT")
+    sys.stdout.buffer.write(script(int(rest[0]), int(rest[1]), level))
 
 
 if __name__ == "__main__":

@@ -8,6 +8,7 @@ from pathlib import Path
 sys.path.insert(0, str(Path(__file__).resolve().parent))
 
 import console  # noqa: E402
+import levels  # noqa: E402
 import random_lines  # noqa: E402
 from dice import Dice  # noqa: E402
 from lines import decode, encode, lines_of, words_of  # noqa: E402
@@ -61,9 +62,26 @@ class Console(unittest.TestCase):
                 self.assertEqual(console.run(line), wanted)
 
     def test_each_line_by_itself(self):
-        script = random_lines.script(5, 3000)
-        self.assertEqual(len(lines_of(script)), 3000)
-        self.assertEqual(console.run(script), b"".join(console.run(line) for line in lines_of(script)))
+        for level in ("values", "packets"):
+            script = random_lines.script(5, 2000, level)
+            self.assertEqual(len(lines_of(script)), 2000)
+            alone = b"".join(console.run(line, level) for line in lines_of(script))
+            self.assertEqual(console.run(script, level), alone)
+
+
+class Levels(unittest.TestCase):
+    def test_only_the_calls_of_a_level_are_known(self):
+        line = b"packet {1.1:R:7:1:100}"
+        self.assertEqual(console.run(line, "values"), b"error\n")
+        self.assertEqual(console.run(line, "packets"), b"request 1.1 7 read 100\n")
+        self.assertEqual(console.run(b"value By 7", "packets"), b"value 7\n")
+
+    def test_names(self):
+        self.assertEqual(levels.named("all"), "catalogue")
+        self.assertEqual(levels.up_to("box"), ("values", "packets", "box"))
+        self.assertEqual(levels.chosen(["7", "--level", "box", "9"]), ("box", ["7", "9"]))
+        self.assertRaises(SystemExit, levels.named, "boxes")
+        self.assertRaises(SystemExit, levels.chosen, ["--level"])
 
 
 if __name__ == "__main__":

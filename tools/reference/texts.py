@@ -6,6 +6,7 @@ right answer is; most texts are close to a limit, and many are damaged on purpos
 
 from __future__ import annotations
 
+import lines
 from dice import Dice
 from values import KINDS, LONGEST_TEXT, REAL_RANGES, WHOLE_RANGES
 
@@ -241,3 +242,10 @@ def some_value(dice: Dice) -> tuple[str, bytes]:
     if dice.once_in(200):
         text = text * dice.between(2, 30)
     return kind, text
+
+
+def word_for(dice: Dice, text: bytes) -> bytes:
+    """A word of the console's lines for these bytes. At times it escapes bytes that need no escape."""
+    if text and dice.once_in(12):
+        return b"".join(b"\\x%02x" % byte if dice.once_in(2) else lines.WRITTEN[byte] for byte in text)
+    return lines.encode(text)
