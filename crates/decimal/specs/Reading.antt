@@ -1,4 +1,7 @@
--- What a text of a real reads as.
+-- What a text of a real reads as: an optional minus, digits, optionally a point and digits, optionally E with a power of ten.
+--     decimal-of bs        the real that the text writes, in its normal form, if it writes one
+--     normal negative m x  m × 10^x in the normal form, if that has at most 18 digits
+-- The bytes 43, 45, 46 and 69 are + - . and E.
 use mathlib.Core.Path.{_≡_}
 use mathlib.Core.Bool.{Bool, true, false, cond, not, _&&_, _||_}
 use mathlib.Core.List.{List, [], _∷_, _++_}
@@ -20,11 +23,12 @@ abbrev pub run-of : List ℕ → ℕ
 run-of [] = 0
 run-of (c ∷ cs) = cond (asciiDigit c) (suc (run-of cs)) 0
 
--- how many zeros m ends in, at most k
+-- how many zeros m ends in, if they are at most k
 abbrev pub tens-of : ℕ → ℕ → ℕ
 tens-of zero m = 0
 tens-of (suc k) m = cond (eqb (m % 10) 0) (suc (tens-of k (m / 10))) 0
 
+-- how many zeros a number of at most 40 digits ends in, as every text has at most 40
 unfoldable pub tens : ℕ → ℕ
 tens m = tens-of 40 m
 
@@ -47,18 +51,20 @@ power-read rest =
     (mapped (λ n. pos n) (power-digits (cond (eqb (getD rest 1 0) 43) (drop 2 rest) (drop 1 rest)))))
     None)
 
+-- the digits before and behind the point are one number, to which the power belongs
 abbrev pub at-power : Bool → List ℕ → List ℕ → Option ℤ → Option Real
 at-power negative whole fraction None = None
 at-power negative whole fraction (Some x) = normal negative (value 10 (whole ++ fraction)) (x -ℤ pos (length fraction))
 
--- the text behind the point
+-- rest is the text behind the point: at least one digit, and then a power
 abbrev pub at-point : Bool → List ℕ → List ℕ → Option Real
 at-point negative whole rest = cond (eqb (run-of rest) 0) None (at-power negative whole (take (run-of rest) rest) (power-read (drop (run-of rest) rest)))
 
--- the text behind the whole digits
+-- rest is the text behind the first digits
 abbrev pub at-whole : Bool → List ℕ → List ℕ → Option Real
 at-whole negative whole rest = cond (eqb (getD rest 0 0) 46) (at-point negative whole (drop 1 rest)) (at-power negative whole [] (power-read rest))
 
+-- the text behind the sign
 abbrev pub unsigned-of : Bool → List ℕ → Option Real
 unsigned-of negative bs = cond (eqb (run-of bs) 0) None (at-whole negative (take (run-of bs) bs) (drop (run-of bs) bs))
 

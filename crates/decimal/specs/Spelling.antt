@@ -1,6 +1,7 @@
--- Exact decimals as text.
---     spelling d      the one spelling of a decimal
---     decimal-of bs       the decimal that a text writes, in its normal form, if it writes one
+-- The one spelling of an exact decimal.
+--     spelling d   the sign, and the digits as the power of ten of the first one asks
+--     placed p ds  without E where p is from -4 to 9, and else with E
+-- The bytes 43, 45, 46, 48 and 69 are + - . 0 and E; `negsuc n` is -(n + 1).
 use mathlib.Core.Path.{_≡_}
 use mathlib.Core.Bool.{Bool, true, false, cond, not, _&&_, _||_}
 use mathlib.Core.List.{List, [], _∷_, _++_}
@@ -21,16 +22,20 @@ abbrev pub fixed : ℤ → List ℕ → List ℕ
 fixed (pos p) ds = pointed (suc p) (ds ++ replicate (suc p - length ds) 48)
 fixed (negsuc q) ds = 48 ∷ 46 ∷ (replicate q 48 ++ ds)
 
+-- at least two digits
 abbrev pub two-digits : ℕ → List ℕ
 two-digits n = cond (ltb n 10) (48 ∷ decimal n) (decimal n)
 
+-- a sign, and the size of the power
 abbrev pub power-text : ℤ → List ℕ
 power-text (pos p) = 43 ∷ two-digits p
 power-text (negsuc q) = 45 ∷ two-digits (suc q)
 
+-- the first digit, a point and the others if there are any, E and the power
 abbrev pub scientific : ℤ → List ℕ → List ℕ
 scientific p ds = pointed 1 ds ++ (69 ∷ power-text p)
 
+-- p is from -4 to 9
 abbrev pub in-fixed : ℤ → Bool
 in-fixed p = leZ (negsuc 3) p && leZ p (pos 9)
 
@@ -42,5 +47,6 @@ placed p ds = cond (in-fixed p) (fixed p ds) (scientific p ds)
 abbrev pub power-of : Real → ℤ
 power-of d = d .exponent +ℤ pos (length (decimal (d .digits)) - 1)
 
+-- zero, which has the digit 0 and p = 0, comes out as 0
 abbrev pub spelling : Real → List ℕ
 spelling d = sign (d .negative) ++ placed (power-of d) (decimal (d .digits))

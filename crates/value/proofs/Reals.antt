@@ -25,7 +25,7 @@ use Rattle.decimal.specs.Reading.{run-of, tens-of, tens, normal, power-read, at
 use Rattle.decimal.specs.Spelling.{spelling}
 use Rattle.decimal.specs.declared.real.Real.{Real}
 use Rattle.decimal.proofs.Forms.{kept-single, kept-double, spelled-textual, single-back, double-back}
-use Rattle.value.proofs.Wholes.{own}
+use Rattle.protocol.proofs.Digits.{own}
 
 -- no zero is left at the end once all are taken off
 clear : (k m : ℕ) → 0 < m → m < 10 ^ k → m / 10 ^ tens-of k m % 10 ≡ 0 → ⊥

@@ -21,7 +21,7 @@ use Rattle.protocol.specs.Rows.{put-at, fits}
 use Rattle.protocol.specs.Texts.{free, sized, textual, utf8}
 use Rattle.protocol.proofs.PlainText.{utf8-decides}
 use Rattle.protocol.proofs.Writes.{put-put, length-put}
-use Rattle.value.proofs.Wholes.{own}
+use Rattle.protocol.proofs.Digits.{own}
 
 free-digits : (ds : List ℕ) → allDigits ds ≡ true → free ds ≡ true
 free-digits [] a = refl

@@ -21,15 +21,13 @@ use Rattle.std.specs.declared.option.Option.{Option}
 use Rattle.std.specs.declared.option.Option.the-variants.{Some, None}
 use Rattle.std.specs.declared.result.Result.{Result}
 use Rattle.std.specs.declared.result.Result.the-variants.{Ok, Err}
-use Rattle.std.proofs.shelf.Numerals.{Numerals, numerals-by-value, tells-allDigits, parse-signed-minus, parse-signed-plain}
+use Rattle.protocol.proofs.Digits.{own}
+use Rattle.std.proofs.shelf.Numerals.{parse-signed-minus, parse-signed-plain}
 use Rattle.std.proofs.shelf.Decimals.{digits-decimal, value-decimal, first-decimal, decimal-some, length-decimal-le, decimal-value, decimal-digit}
 use Rattle.std.proofs.shelf.Tests.{cases-bool, cond-true, cond-false, and-left, and-right, and-cases, cases-lt, cases-eq, false≢true, and-parts, ne-eqb}
 use Rattle.std.proofs.shelf.Ways.{tells}
 use Rattle.std.proofs.shelf.Signed.{ints}
 use Rattle.value.specs.Whole.{plain, between, whole-of, begins}
-
-pub own : Numerals (λ ds. allDigits ds ≡ true) (value 10)
-own = numerals-by-value _ tells-allDigits
 
 abbrev pub picked : {E : Type 0} → ℤ → ℤ → Result ℤ E → Option ℤ
 picked lo hi (Ok z) = between lo hi z

@@ -14,10 +14,10 @@ use Rattle.value.proofs.Readings.{truth-textual, spells}
 use Rattle.value.proofs.value.Value.spelling.Needs as need
 
 pub text-of-requires : need.text-of-requires
-text-of-requires c κs = truth-textual true
+text-of-requires c κs = search (truth-textual true, truth-textual false)
 
 pub text-of-requires-in-Bo-false : need.text-of-requires-in-Bo-false
-text-of-requires-in-Bo-false c κs = truth-textual false
+text-of-requires-in-Bo-false c κs = search (truth-textual true, truth-textual false)
 
 pub returns-in-In : need.returns-in-In
 returns-in-In c =

@@ -1,0 +1,4 @@
+pub mod Stars
+pub mod Rows
+pub mod Names
+pub mod Coordinates
