@@ -1,0 +1,3 @@
+pub mod Counting
+pub mod Soundness
+pub mod Asked
