@@ -12,7 +12,9 @@ use sky::hours::HoursDisplay;
 use std::alloc::AllocError;
 use std::alloc::Global;
 use std::io;
-use value::value::Value;
+use stars::rows::StarRows;
+use stars::stored::StarStore;
+use store::store::Store;
 
 /// Why a row is not used, in words.
 fn row_words(trouble: RowTrouble) -> &'static str {
@@ -69,32 +71,49 @@ fn first_line(targets: &[Target], target: &Target) -> Option<usize> {
     None
 }
 
-/// Prints the three values that go to the mount, and the coordinates as people write them.
-fn print_target(rt: &LibcRuntime, target: &Target, width: usize) -> io::Result<()> {
+/// The index at which the star rows hold the name of a star; the two angles follow.
+fn first_index(row: usize) -> u16 {
+    let index = row.saturating_mul(3).saturating_add(100);
+    u16::try_from(index).unwrap_or(u16::MAX)
+}
+
+/// The value that the star rows hold at an index, in its spelling.
+fn held(heap: Global, rows: &StarRows, index: u16) -> Result<String, AllocError> {
+    match rows.read(index) {
+        Ok(value) => printable(heap, &value.spelling()),
+        Err(code) => {
+            let number = code.number();
+            format!(heap, "code {number}")
+        }
+    }
+}
+
+/// Prints the three values that go to the mount as the star rows hold them, and the coordinates as people write them.
+fn print_target(rt: &LibcRuntime, rows: &StarRows, target: &Target, width: usize) -> io::Result<()> {
     let heap = rt.alloc();
     let line = target.line;
-    let star = target.star;
-    let name = printable(heap, &Value::St(star.name()).spelling())?;
-    let ascension = printable(heap, &Value::In(star.ascension()).spelling())?;
-    let declination = printable(heap, &Value::In(star.declination()).spelling())?;
-    let hours = star.hours();
-    let degrees = star.degrees();
+    let index = first_index(target.row);
+    let name = held(heap, rows, index)?;
+    let ascension = held(heap, rows, index.saturating_add(1))?;
+    let declination = held(heap, rows, index.saturating_add(2))?;
+    let hours = target.star.hours();
+    let degrees = target.star.degrees();
     print!(
         rt,
-        "{line:>4}  {name:<width$}  {ascension:>10}  {hours}  {declination:>10}  {degrees}"
+        "{line:>4}  {index:>5}  {name:<width$}  {ascension:>10}  {hours}  {declination:>10}  {degrees}"
     )
 }
 
 /// Prints the targets.
-fn print_targets(rt: &LibcRuntime, targets: &[Target]) -> io::Result<()> {
+fn print_targets(rt: &LibcRuntime, rows: &StarRows, targets: &[Target]) -> io::Result<()> {
     let width = name_width(rt.alloc(), targets)?;
     let name = "name (St)";
     println!(
         rt,
-        "line  {name:<width$}  right ascension (In)       declination (In)"
+        "line  index  {name:<width$}  right ascension (In)       declination (In)"
     )?;
     for (i, target) in targets.iter().enumerate() {
-        print_target(rt, target, width)?;
+        print_target(rt, rows, target, width)?;
         match first_line(&targets[0..i], target) {
             Some(line) => println!(rt, "  again, as in line {line}")?,
             None => println!(rt, "")?,
@@ -118,14 +137,19 @@ fn print_miss(rt: &LibcRuntime, miss: &Miss) -> io::Result<()> {
     }
 }
 
-/// Prints the targets that are ready, the wishes that are not, and how many there are of each.
-pub fn print_sheet(rt: &LibcRuntime, wishes: &Wishes) -> io::Result<()> {
+/// Prints the targets that are ready, with what the star rows hold of them.
+pub fn print_ready(rt: &LibcRuntime, rows: &StarRows, targets: &[Target]) -> io::Result<()> {
+    if targets.is_empty() {
+        return Ok(());
+    }
+    println!(rt, "\nReady for the mount")?;
+    print_targets(rt, rows, targets)
+}
+
+/// Prints the wishes that are not ready, and how many there are of both.
+pub fn print_rest(rt: &LibcRuntime, wishes: &Wishes) -> io::Result<()> {
     let ready = wishes.targets.len();
     let others = wishes.misses.len();
-    if ready > 0 {
-        println!(rt, "\nReady for the mount")?;
-        print_targets(rt, wishes.targets.as_slice())?;
-    }
     if others > 0 {
         println!(rt, "\nNot ready")?;
         for miss in wishes.misses.iter() {

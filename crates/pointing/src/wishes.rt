@@ -21,10 +21,11 @@ pub enum WishTrouble {
     Unknown(Text),
 }
 
-/// A wish that is ready, by its line.
+/// A wish that is ready, by its line: the star, and its row in the catalogue, counted from 0.
 #[derive(Clone, Copy)]
 pub struct Target {
     pub line: usize,
+    pub row: usize,
     pub star: Star,
 }
 
@@ -69,9 +70,9 @@ impl Wishes {
             }
             let line = i + 1;
             match judge_wish(stars, wish) {
-                Ok(place) => {
-                    let star = stars[place];
-                    targets.push(Target { line, star })?;
+                Ok(row) => {
+                    let star = stars[row];
+                    targets.push(Target { line, row, star })?;
                 }
                 Err(trouble) => misses.push(Miss { line, trouble })?,
             }
