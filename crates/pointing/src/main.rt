@@ -76,7 +76,10 @@ fn print_night(rt: &LibcRuntime, chart: Chart, wishes: &Wishes) -> Result<(), An
         Ok(rows) => print_ready(rt, &rows, wishes.targets.as_slice())?,
         Err(_) => {
             if count > 0 {
-                return Err(format!(rt.alloc(), "{count} stars are too many: star rows hold up to 20000")?.into());
+                return Err(format!(
+                    rt.alloc(),
+                    "{count} stars are too many: star rows hold up to 20000"
+                )?.into());
             }
         }
     }

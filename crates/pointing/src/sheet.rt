@@ -9,11 +9,11 @@ use crate::wishes::Wishes;
 use sky::degrees::DegreesDisplay;
 use sky::fault::RowFault;
 use sky::hours::HoursDisplay;
+use stars::rows::StarRows;
+use stars::stored::StarStore;
 use std::alloc::AllocError;
 use std::alloc::Global;
 use std::io;
-use stars::rows::StarRows;
-use stars::stored::StarStore;
 use store::store::Store;
 
 /// Why a row is not used, in words.
@@ -89,7 +89,12 @@ fn held(heap: Global, rows: &StarRows, index: u16) -> Result<String, AllocError>
 }
 
 /// Prints the three values that go to the mount as the star rows hold them, and the coordinates as people write them.
-fn print_target(rt: &LibcRuntime, rows: &StarRows, target: &Target, width: usize) -> io::Result<()> {
+fn print_target(
+    rt: &LibcRuntime,
+    rows: &StarRows,
+    target: &Target,
+    width: usize,
+) -> io::Result<()> {
     let heap = rt.alloc();
     let line = target.line;
     let index = first_index(target.row);
