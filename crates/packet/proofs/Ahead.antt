@@ -60,7 +60,7 @@ module _ {X : Type 0} (width : ℕ) (group : List (List ℕ) → Result X ℕ) w
       ap (λ r. length (if-group r (ahead width group (suc n) (drop width fs)))) (b .is) ∙ ap suc (ahead-more n (drop width fs) x (b .rest) e)
 
   module _ (none : group [] ≡ Err 0) where
-    groups-step : (k least most : ℕ) (fs : List (List ℕ)) (x : X) → group fs ≡ Ok x → groups width group k least fs (suc most) ≡ in-front x (groups width group (k + width) (least - 1) (drop width fs) most)
+    pub groups-step : (k least most : ℕ) (fs : List (List ℕ)) (x : X) → group fs ≡ Ok x → groups width group k least fs (suc most) ≡ in-front x (groups width group (k + width) (least - 1) (drop width fs) most)
     groups-step k least most [] x e = let z : _≡_ {A = ℕ} 0 1 = cc in absurd (omega arith)
     groups-step k least most (f ∷ fs) x e = rw e
 

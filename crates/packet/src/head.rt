@@ -17,11 +17,11 @@ use protocol::refusal::Refusal;
 
 /// What the head says.
 #[derive(Clone, Copy)]
-pub(crate) struct Head {
-    pub(crate) version: Version,
-    pub(crate) direction: Direction,
-    pub(crate) number: u16,
-    pub(crate) command: Command,
+pub struct Head {
+    pub version: Version,
+    pub direction: Direction,
+    pub number: u16,
+    pub command: Command,
 }
 
 /// The version, which may be 1.0 only beside a command other than 3.

@@ -7,7 +7,7 @@
 
 pub mod codes;
 mod discovery;
-mod head;
+pub mod head;
 pub mod indices;
 pub mod packet;
 pub mod readings;

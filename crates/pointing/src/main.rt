@@ -8,11 +8,13 @@
 
 mod chart;
 mod lines;
+mod orders;
 mod sheet;
 mod texts;
 mod wishes;
 
 use chart::Chart;
+use orders::print_orders;
 use sheet::print_ready;
 use sheet::print_rest;
 use sheet::print_tally;
@@ -73,7 +75,10 @@ fn chart_of(rt: &LibcRuntime, files: &[File]) -> io::Result<Chart> {
 fn print_night(rt: &LibcRuntime, chart: Chart, wishes: &Wishes) -> Result<(), AnyError> {
     let count = chart.stars.len();
     match StarRows::new(chart.stars) {
-        Ok(rows) => print_ready(rt, &rows, wishes.targets.as_slice())?,
+        Ok(rows) => {
+            print_ready(rt, &rows, wishes.targets.as_slice())?;
+            print_orders(rt, wishes.targets.as_slice())?;
+        }
         Err(_) => {
             if count > 0 {
                 return Err(format!(

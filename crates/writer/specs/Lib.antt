@@ -1,0 +1,4 @@
+pub mod Bytes
+pub mod Orders
+pub mod Written
+pub mod Puts
