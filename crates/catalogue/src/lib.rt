@@ -4,6 +4,7 @@
 //!     `Catalogue`     the station
 //!     `Partner`       what it keeps of a partner, and of the transaction that waits there
 //!     `Poll`, `Sent`  what polling and opening tell
+#![tactic(auto)]
 
 pub mod backoff;
 pub mod catalogue;

@@ -1,5 +1,6 @@
 //! Every call from a line of text: reads a script from standard input, one command on a line, and prints one line
 //! for each. An empty line, and one that begins with `#`, prints nothing; a line that is not understood prints `error`.
+#![tactic(auto)]
 
 mod commands;
 mod packets;

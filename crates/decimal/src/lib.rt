@@ -3,6 +3,7 @@
 //! A text is scanned into digits and a power of ten (`scan`), the digits are gathered into a coefficient
 //! of at most 18 digits (`gather`), the size is held against the ends of a range (`range`), and a
 //! decimal is written in its one spelling (`spell`). Binary floating point is nowhere used.
+#![tactic(auto)]
 
 pub mod decimal;
 pub mod decimals;

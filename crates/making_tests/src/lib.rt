@@ -1,5 +1,6 @@
 //! What the making of each store turns down, at and beside its limits, and what becomes of what was handed in; and lists
 //! of calls.
+#![tactic(auto)]
 
 #[cfg(test)]
 mod joins;

@@ -4,6 +4,7 @@
 //!     `handle`            what becomes of a packet from a sender
 //!     `owner_write`       the owner's write to the store
 //!     `SenderTable`       the sixteen records, of which one at a time is lent to be changed
+#![tactic(auto)]
 
 mod carrying;
 mod handling;

@@ -4,6 +4,7 @@
 //! The payload, what stands behind the fourth field, is handed on to the reader of its kind: `indices`,
 //! `writes`, `codes`, `readings` or `discovery`. A reader goes through the groups once, and gives a
 //! cursor over them or the number of the first field at fault.
+#![tactic(auto)]
 
 pub mod codes;
 mod discovery;

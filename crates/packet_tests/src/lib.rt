@@ -1,5 +1,6 @@
 //! A table of packets: the ground on which each is refused with the field at fault, for each field at which that can
 //! arise, or that it is read.
+#![tactic(auto)]
 
 #[cfg(test)]
 mod tests {

@@ -5,6 +5,7 @@
 //! A catalogue file has one star on a line, `NAME,ASCENSION,DECLINATION`, with both angles in milliarcseconds. Lines
 //! that begin with `#` are comments. WISHES has one name on a line. Empty lines are skipped in both. Each row and each
 //! wish that cannot be used is told with its line and the reason.
+#![tactic(auto)]
 
 mod chart;
 mod lines;

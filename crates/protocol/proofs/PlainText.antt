@@ -1,7 +1,7 @@
 -- Reserved bytes and UTF-8.
-use Rattle.std.proofs.Common.{◌≡◌, ℕ, ◌+◌, ◌<◌, ◌≤◌, Bool, true, false, not, ◌&&◌, leb, List, [], ◌∷◌, length, get_or, drop, IsUtf8, Decides, sym, ap, ◌∙◌}
-use lib.Utf8.{encodes, scalars}
-use Rattle.std.specs.Str.{bytes_eq, chars}
+use Rattle.std.proofs.Common.{◌≡◌, ℕ, ◌+◌, ◌<◌, ◌≤◌, true, false, not, ◌&&◌, leb, List, length, get_or, drop, IsUtf8, Decides, sym, ap, ◌∙◌}
+use lib.Utf8.{scalars}
+use Rattle.std.specs.Str.{chars}
 use Rattle.std.proofs.lemmas.Slice.Eq.{bytes_eq-Decides}
 use Rattle.std.proofs.lemmas.List.{at_drop_more}
 use Rattle.std.proofs.lemmas.Str.{encodes-chars, scalars-chars}

@@ -1,5 +1,6 @@
 //! The words of the protocol: type tags, answer codes, refusals, and texts of 1 to 40 bytes.
 //! Each enum's cases have their numbers and values by a definition of specs/Words.antt, and a call tells them.
+#![tactic(auto)]
 
 pub mod code;
 pub mod kind;

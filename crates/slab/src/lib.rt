@@ -2,6 +2,7 @@
 //! bytes: row k starts at byte 512 × k. A reply buffer is memory of at least 512 bytes.
 //!     `Place`      where a packet lies
 //!     `hand_out`   the part of the memory at a place
+#![tactic(auto)]
 
 pub mod part;
 pub mod place;

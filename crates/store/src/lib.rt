@@ -8,6 +8,7 @@
 //!     `Joined`        two stores as one
 //!     `owner_write`, `write_text`   writing a text
 //!     `run`           a list of reads and writes
+#![tactic(auto)]
 
 pub mod house;
 pub mod joined;

@@ -1,4 +1,5 @@
 //! Tables of calls on each store: what is answered at and beside the limits, in gaps, at fixed elements and for every type.
+#![tactic(auto)]
 
 #[cfg(test)]
 mod houses;

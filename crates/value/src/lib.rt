@@ -4,6 +4,7 @@
 //! through one reader, each type between its own ends, and one speller (`whole`); the reals are those of
 //! the crate `decimal`. Reading and spelling are proved to go back and forth: a text that reads has a
 //! spelling that reads as the same value, and each value is read from its spelling.
+#![tactic(auto)]
 
 pub mod long;
 pub mod longs;

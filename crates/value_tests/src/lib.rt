@@ -1,4 +1,5 @@
 //! A table of value texts: what each reads as, near every limit, and what is not read at all.
+#![tactic(auto)]
 
 #[cfg(test)]
 mod tests {

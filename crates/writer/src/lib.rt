@@ -4,6 +4,7 @@
 //!     `answers`    what a box answers
 //!     `again`      what was read, each value in its one spelling
 //!     `limits`     which orders can be written
+#![tactic(auto)]
 
 pub mod again;
 pub mod answers;

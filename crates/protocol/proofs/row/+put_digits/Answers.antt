@@ -1,8 +1,7 @@
-use Rattle.std.proofs.Common.{◌≡◌, ◌+◌, ◌/◌, ◌%◌, ◌^◌, ◌<◌, ◌≤◌, [], ◌∷◌, ◌++◌, length, decimal, sym, refl, ap, ◌∙◌, arith}
+use Rattle.std.proofs.Common.{◌+◌, ◌/◌, ◌%◌, [], ◌∷◌, length, decimal, sym, ap, ◌∙◌, arith}
 use Rattle.std.proofs.lemmas.Fmt.{decimal_digit, decimal_step}
-use Rattle.std.proofs.lemmas.List.{length_push}
 use Rattle.protocol.specs.Rows.{put_at}
-use Rattle.protocol.proofs.Writes.{put_one, put_put, length_put, decimal_longer, small_digit}
+use Rattle.protocol.proofs.Writes.{put_one, put_put, decimal_longer, small_digit}
 use Rattle.protocol.proofs.row.+put_digits.Goals as goal
 
 pub bounds-row-at : goal.bounds-row-at
@@ -14,27 +13,27 @@ returns-then-n-lt10 t c =
     let l = ap length e in
     record { end = omega arith; row = put_one c.args.row.now c.args.at (48 + c.args.n % 10) (omega arith) ∙ ap (put_at c.args.row.now c.args.at) (sym e) }
 
-pub put-digits-end-requires : goal.put-digits-end-requires
-put-digits-end-requires t c = let l = decimal_longer c.args.n c.if-n-lt10.false (omega arith) in (omega arith, omega arith)
+pub put_digits-end-requires : goal.put_digits-end-requires
+put_digits-end-requires t c = let l = decimal_longer c.args.n c.if-n-lt10.false (omega arith) in (omega arith, omega arith)
 
 pub bounds-row-end : goal.bounds-row-end
-bounds-row-end t c = let l = decimal_longer c.args.n c.if-n-lt10.false (omega arith) in omega (arith, c.put-digits-end.ensures.end)
+bounds-row-end t c = let l = decimal_longer c.args.n c.if-n-lt10.false (omega arith) in omega (arith, c.put_digits-end.ensures.end)
 
-pub overflow-add-result-2 : goal.overflow-add-result-2
-overflow-add-result-2 t c = let l = decimal_longer c.args.n c.if-n-lt10.false (omega arith) in omega (arith, c.put-digits-end.ensures.end)
+pub overflow_add-result-2 : goal.overflow_add-result-2
+overflow_add-result-2 t c = let l = decimal_longer c.args.n c.if-n-lt10.false (omega arith) in omega (arith, c.put_digits-end.ensures.end)
 
 pub returns : goal.returns
 returns t c =
     let n = c.args.n in
     let l = decimal_longer c.args.n c.if-n-lt10.false (omega arith) in
-    let end = c.put-digits-end.ensures.end in
+    let end = c.put_digits-end.ensures.end in
     let row = c.args.row.now in
     let digit = (48 + n % 10) ∷ [] in
     record {
       end = omega arith;
       row =
-          put_one c.put-digits-end.new.row c.put-digits-end.result (48 + n % 10) (omega arith)
-          ∙ ap (λ r. put_at r c.put-digits-end.result digit) c.put-digits-end.ensures.row
-          ∙ put_put row c.args.at c.put-digits-end.result (decimal (n / 10)) digit end (omega arith)
+          put_one c.put_digits-end.new.row c.put_digits-end.result (48 + n % 10) (omega arith)
+          ∙ ap (λ r. put_at r c.put_digits-end.result digit) c.put_digits-end.ensures.row
+          ∙ put_put row c.args.at c.put_digits-end.result (decimal (n / 10)) digit end (omega arith)
           ∙ ap (put_at row c.args.at) (sym (decimal_step n c.if-n-lt10.false (omega arith)));
     }

@@ -13,5 +13,5 @@ returns c =
     let t : fits row at bytes ≡ true = le-leb (at + length bytes) (length row) (omega arith) in
     record {
       end = sym (cond-true _ _ _ t);
-      row = ap (put_mid at (at + length bytes - at) row) c.copy-from-slice.ensures.after ∙ put_middle row bytes at ∙ sym (cond-true _ _ _ t);
+      row = ap (put_mid at (at + length bytes - at) row) c.copy_from_slice.ensures.after ∙ put_middle row bytes at ∙ sym (cond-true _ _ _ t);
     }
