@@ -1,21 +1,21 @@
 -- A spelling is read back.
-use Rattle.std.proofs.Common.{◌≡◌, ℕ, zero, suc, ◌+◌, ◌-◌, ◌*◌, ◌/◌, ◌%◌, ◌^◌, ◌<◌, ◌≤◌, Bool, true, false, cond, ◌&&◌, eqb, ltb, ◌⊎◌, List, [], ◌∷◌, ◌++◌, length, get_or, take, drop, replicate, ℤ, pos, negsuc, ◌+ℤ◌, ◌-ℤ◌, neg_ℤ, nat_abs, ◌≤ℤ◌, Some, None, decimal, Option, sym, refl, ap, ◌∙◌, subst, inl, inr, append_assoc, mul_assoc, pow-suc, arith}
+use Rattle.std.proofs.Common.{◌≡◌, ℕ, zero, suc, ◌+◌, ◌-◌, ◌*◌, ◌%◌, ◌^◌, ◌<◌, ◌≤◌, Bool, true, false, List, [], ◌∷◌, ◌++◌, length, get_or, take, drop, replicate, ℤ, pos, negsuc, ◌+ℤ◌, ◌-ℤ◌, neg_ℤ, ◌≤ℤ◌, Some, decimal, Option, sym, refl, ap, ◌∙◌, inl, inr, mul_assoc, arith}
 use native.Mathlib.Nat.{pow-succ'}
 use lib.IntN.{+ℤ_idl, +ℤ_idr}
 use Rattle.std.specs.Option.{option_map}
 use Rattle.std.specs.Str.Parse.{digits_value, digits_value_after}
-use Rattle.std.specs.Char.{is_ascii_digit, digit_value}
+use Rattle.std.specs.Char.{is_ascii_digit}
 use Rattle.std.specs.Fmt.{digits, sign_text}
 use Rattle.decimal.specs.Normal.{Normal}
 use Rattle.std.specs.Str.{all_ascii_digits}
 use Rattle.std.proofs.lemmas.List.{append-nil, take_at, drop_at, length-append, length-replicate, length-take-le, length-drop, take-append-drop}
 use Rattle.std.proofs.lemmas.Fmt.{digits_decimal, digits_value-decimal, decimal_nonempty, length-decimal-le}
 use Rattle.std.proofs.lemmas.Int.{ints}
-use Rattle.std.proofs.lemmas.Bool.{cases_Bool, cases_lt, cases_eq, cond-true, cond-false, eq-eqb, ne_eqb, lt-ltb, le-ltb}
+use Rattle.std.proofs.lemmas.Bool.{cases_lt, cases_eq, cond-true, cond-false, ne_eqb, lt-ltb, le-ltb}
 use Rattle.std.proofs.lemmas.Bool.Decides.{nat_tests}
 use Rattle.decimal.specs.declared.real.Real.{Real}
-use Rattle.decimal.specs.Spelling.{placed, power_text, two_digits, in_fixed, spelling, power_of}
-use Rattle.decimal.specs.Reading.{run_of, normal, power_digits, power_read, at_power, at_point, at_whole, unsigned_of, decimal_of}
+use Rattle.decimal.specs.Spelling.{placed, power_text, two_digits, in_fixed, spelling}
+use Rattle.decimal.specs.Reading.{run_of, normal, power_digits, power_read, at_power, at_whole, unsigned_of, decimal_of}
 use Rattle.protocol.proofs.Digits.{own}
 use Rattle.decimal.proofs.Gathers.{all_drop}
 use Rattle.decimal.proofs.Reals.{place_below, place_padded, place_pointed, place_one, place_more}

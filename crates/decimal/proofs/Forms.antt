@@ -1,9 +1,8 @@
 -- What a decimal keeps: its normal form, and a power of ten that its range bounds.
-use Rattle.std.proofs.Common.{◌≡◌, ℕ, ◌+◌, ◌%◌, ◌^◌, ◌<◌, ◌≤◌, Bool, true, false, cond, not, ◌&&◌, ◌||◌, eqb, ltb, leb, ◌⊎◌, ℤ, pos, negsuc, ◌+ℤ◌, ◌≤ℤ◌, Some, None, Option, sym, refl, ap, ◌∙◌, subst, inl, inr, ⊎_elim, arith}
+use Rattle.std.proofs.Common.{◌≡◌, ◌%◌, ◌^◌, ◌<◌, Bool, true, not, eqb, ltb, ◌⊎◌, ℤ, pos, negsuc, ◌+ℤ◌, ◌≤ℤ◌, Some, sym, ap, ◌∙◌, subst, inl, inr, arith}
 use lib.Signed.{le_z}
 use Rattle.std.proofs.lemmas.Int.{ints}
-use Rattle.std.proofs.lemmas.Bool.{cases_lt, cases_eq, cases_Bool, and_from, and_parts, or_cases, cond-true, cond-false, eqb-true, eq-eqb, ne_eqb, ltb-true, lt-ltb, not-true}
-use Rattle.std.proofs.lemmas.Bool.Decides.{nat_tests}
+use Rattle.std.proofs.lemmas.Bool.{cases_eq, and_from, and_parts, or_cases, cond-true, cond-false, eqb-true, eq-eqb, ne_eqb, ltb-true, lt-ltb, not-true}
 use Rattle.protocol.specs.Texts.{textual}
 use Rattle.decimal.specs.declared.real.Real.{Real}
 use Rattle.decimal.specs.Normal.{Normal, nought, is_zero, in_form}

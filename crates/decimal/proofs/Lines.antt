@@ -1,5 +1,5 @@
 -- What is written in parts is written in a row.
-use Rattle.std.proofs.Common.{◌≡◌, ℕ, List, ◌++◌, sym, ap, ◌∙◌, append_assoc}
+use Rattle.std.proofs.Common.{◌≡◌, ℕ, List, ◌++◌, ap, ◌∙◌, append_assoc}
 
 pub two_parts : (l a b r s : List ℕ) → r ≡ l ++ a → s ≡ r ++ b → s ≡ l ++ (a ++ b)
 two_parts l a b r s p q = q ∙ ap (λ x. x ++ b) p ∙ append_assoc l a b

@@ -1,12 +1,10 @@
 -- The forms of a spelling, each where its arm is taken.
-use Rattle.std.proofs.Common.{◌≡◌, ℕ, zero, suc, ◌+◌, ◌-◌, ◌^◌, ◌<◌, ◌≤◌, Bool, true, false, cond, not, ◌&&◌, ◌||◌, eqb, ltb, leb, ◌⊎◌, List, [], ◌∷◌, ◌++◌, length, get_or, take, drop, replicate, ℤ, pos, negsuc, ◌+ℤ◌, nat_abs, ◌≤ℤ◌, sym, refl, ap, ◌∙◌, subst, inl, inr, append_assoc, arith, w16, SFits, to_z, of_z, rules}
-use lib.Signed.{le_z, mag}
+use Rattle.std.proofs.Common.{◌≡◌, ℕ, suc, ◌+◌, ◌-◌, ◌^◌, ◌<◌, ◌≤◌, true, false, List, ◌∷◌, ◌++◌, length, take, drop, replicate, ℤ, pos, negsuc, ◌+ℤ◌, nat_abs, ◌≤ℤ◌, refl, ap, ◌∙◌, append_assoc, arith, w16, SFits, to_z, of_z}
 use mir.Val.{hbits}
 use Rattle.std.proofs.lemmas.List.{length-append, length-replicate, append-nil}
 use Rattle.std.proofs.lemmas.Bool.{cond-true, cond-false, lt-ltb, le-ltb}
-use Rattle.std.proofs.lemmas.Bool.Decides.{nat_tests}
 use Rattle.std.proofs.lemmas.Int.{ints, to_z-of_z, to_z_pos}
-use Rattle.decimal.specs.Spelling.{pointed, fixed, scientific, in_fixed, placed, power_text}
+use Rattle.decimal.specs.Spelling.{pointed, in_fixed, placed, power_text}
 
 pub place_below : (p : ℤ) (ds : List ℕ) → negsuc 3 ≤ℤ p → p ≤ℤ negsuc 0 → placed p ds ≡ 48 ∷ 46 ∷ (replicate (nat_abs p - 1) 48 ++ ds)
 place_below (pos n) ds a b = absurd (omega (arith, ints))

@@ -1,5 +1,5 @@
 -- Reals in their normal form: each number has one.
-use Rattle.std.specs.Prelude.{◌≡◌, ℕ, ◌%◌, ◌^◌, ◌<◌, Bool, true, false, cond, not, ◌&&◌, pos, negsuc, ◌≤ℤ◌, ◌==◌, int_le, nat_lt}
+use Rattle.std.specs.Prelude.{◌≡◌, ◌%◌, ◌^◌, ◌<◌, Bool, true, false, cond, not, ◌&&◌, pos, negsuc, ◌≤ℤ◌, ◌==◌, int_le, nat_lt}
 use Rattle.decimal.specs.declared.real.Real.{Real}
 
 -- zero has no sign

@@ -2,8 +2,7 @@
 --     spelling d   the sign, and the digits as the power of ten of the first one asks
 --     placed p ds  without E where p is from -4 to 9, and else with E
 -- The bytes 43, 45, 46, 48 and 69 are + - . 0 and E; `negsuc n` is -(n + 1).
-use Rattle.std.specs.Prelude.{◌≡◌, ℕ, zero, suc, ◌+◌, ◌-◌, ◌*◌, ◌/◌, ◌%◌, ◌^◌, ◌<◌, ◌≤◌, Bool, true, false, cond, not, ◌&&◌, ◌||◌, List, [], ◌∷◌, ◌++◌, length, take, drop, replicate, ℤ, pos, negsuc, ◌+ℤ◌, ◌-ℤ◌, neg_ℤ, decimal, int_le, nat_lt}
-use Rattle.std.specs.Int.Signed.{lt_z}
+use Rattle.std.specs.Prelude.{ℕ, suc, ◌-◌, Bool, cond, ◌&&◌, List, ◌∷◌, ◌++◌, length, take, drop, replicate, ℤ, pos, negsuc, ◌+ℤ◌, decimal, int_le, nat_lt}
 use Rattle.std.specs.Fmt.{sign_text}
 use Rattle.decimal.specs.declared.real.Real.{Real}
 

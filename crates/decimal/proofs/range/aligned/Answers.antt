@@ -1,10 +1,10 @@
-use Rattle.std.proofs.Common.{◌≡◌, ◌-◌, ◌^◌, ◌≤◌, ◌∙◌, arith}
+use Rattle.std.proofs.Common.{◌-◌, ◌≤◌, ◌∙◌, arith}
 use native.Mathlib.Nat.{one-le-pow}
 use Rattle.decimal.proofs.Ranges.{room_left, turned, up}
 use Rattle.decimal.proofs.range.aligned.Goals as goal
 
-pub overflow-sub-place : goal.overflow-sub-place
-overflow-sub-place c = room_left c.args.power c.loop-front.place c.loop-front.front c.requires.room c.loop-front.invariant.3 (omega arith)
+pub overflow_sub-place : goal.overflow_sub-place
+overflow_sub-place c = room_left c.args.power c.loop-front.place c.loop-front.front c.requires.room c.loop-front.invariant.3 (omega arith)
 
 pub loop-front-smaller : goal.loop-front-smaller
 loop-front-smaller c =

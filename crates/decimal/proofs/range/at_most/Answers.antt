@@ -2,16 +2,16 @@ use Rattle.std.proofs.Common.{◌≡◌, ◌*◌, ◌^◌, leb, ◌∙◌}
 use Rattle.decimal.specs.Range.{at_most}
 use Rattle.decimal.proofs.Ranges.{size_of, size_is, sizes, by-power, by_front, by-neither}
 use Rattle.decimal.proofs.range.at_most.Goals as goal
-use Rattle.decimal.proofs.range.at_most.Goals.{After-aligned-y, at·returns-then-p-q, at·returns-then-p-q-2, at·returns-else-p-q-2}
+use Rattle.decimal.proofs.range.at_most.Goals.{After-aligned-y, Then-p-q, Then-p-q-2, Else-p-q-2}
 
 left : (c : goal.After-aligned-y) → size_of c.args.a ≡ c.aligned-x.result.0 * 10 ^ c.aligned-x.result.1
-left c = size_is c.args.a _ _ c.requires.a-bounds.0 c.requires.a-bounds.1 c.aligned-x.ensures.same
+left c = size_is c.args.a _ _ c.requires.a_bounds.0 c.requires.a_bounds.1 c.aligned-x.ensures.same
 
 right : (c : goal.After-aligned-y) → size_of c.args.b ≡ c.aligned-y.result.0 * 10 ^ c.aligned-y.result.1
-right c = size_is c.args.b _ _ c.requires.b-bounds.0 c.requires.b-bounds.1 c.aligned-y.ensures.same
+right c = size_is c.args.b _ _ c.requires.b_bounds.0 c.requires.b_bounds.1 c.aligned-y.ensures.same
 
 order : (c : goal.After-aligned-y) → leb (size_of c.args.a) (size_of c.args.b) ≡ at_most c.args.a c.args.b
-order c = sizes c.args.a c.args.b c.requires.a-bounds.0 c.requires.b-bounds.0
+order c = sizes c.args.a c.args.b c.requires.a_bounds.0 c.requires.b_bounds.0
 
 pub returns-then-p-q : goal.returns-then-p-q
 returns-then-p-q c =

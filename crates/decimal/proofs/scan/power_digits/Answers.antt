@@ -1,4 +1,4 @@
-use Rattle.std.proofs.Common.{◌≡◌, ◌+◌, ◌-◌, ◌*◌, ◌^◌, ◌<◌, ◌≤◌, true, false, ◌&&◌, ltb, length, get_or, drop, Some, sym, ap, ◌∙◌, subst, arith, rules}
+use Rattle.std.proofs.Common.{◌≡◌, ◌+◌, ◌*◌, ◌^◌, ◌<◌, ◌≤◌, true, false, ◌&&◌, ltb, length, drop, Some, sym, ap, ◌∙◌, arith, rules}
 use native.Mathlib.Nat.{pow-le-pow_right}
 use Rattle.std.specs.Str.Parse.{digits_value_after}
 use Rattle.std.specs.Str.{all_ascii_digits}
@@ -7,24 +7,24 @@ use Rattle.std.proofs.lemmas.Bool.Decides.{nat_tests}
 use Rattle.decimal.proofs.Gathers.{digit_in, stepped}
 use Rattle.decimal.proofs.Readings.{all_run, not_all, power_some, power_none, digit_more}
 use Rattle.decimal.proofs.scan.power_digits.Goals as goal
-use Rattle.decimal.proofs.scan.power_digits.Goals.{After-run, at·sub-b, at·loop-b-again, at·returns, then-is-empty-via-then-is-empty, then-is-empty-via-else-is-empty+then-text-gt3, then-is-empty-via-else-is-empty+else-text-gt3+then-run-text}
+use Rattle.decimal.proofs.scan.power_digits.Goals.{After-run, In-loop-b, After-loop-b, then-is_empty-via-then-is_empty, then-is_empty-via-else-is_empty+then-text-gt3, then-is_empty-via-else-is_empty+else-text-gt3+then-run-text}
 
-pub returns-then-is-empty : goal.returns-then-is-empty
-returns-then-is-empty c =
+pub returns-then-is_empty : goal.returns-then-is_empty
+returns-then-is_empty c =
     let ds = c.args.text.now in
     let t : (all_ascii_digits ds && (ltb 0 (length ds) && ltb (length ds) 4)) ≡ false =
-    elim c.then-is-empty.branch [
-      | then-is-empty-via-then-is-empty w ↦ grind (arith, nat_tests)
-      | then-is-empty-via-else-is-empty+then-text-gt3 w ↦ grind (arith, nat_tests)
-      | then-is-empty-via-else-is-empty+else-text-gt3+then-run-text w ↦ let n = not_all ds (omega (arith, w.run.ensures.value, w.if-run-text.true)) in grind (arith, nat_tests)
+    elim c.then-is_empty.branch [
+      | then-is_empty-via-then-is_empty w ↦ grind (arith, nat_tests)
+      | then-is_empty-via-else-is_empty+then-text-gt3 w ↦ grind (arith, nat_tests)
+      | then-is_empty-via-else-is_empty+else-text-gt3+then-run-text w ↦ let n = not_all ds (omega (arith, w.run.ensures.value, w.if-run-text.true)) in grind (arith, nat_tests)
     ] in
     record { value = sym (power_none ds t); bound = tt }
 
 digits : (c : goal.After-run) → length c.args.text.now ≤ c.run.result → all_ascii_digits c.args.text.now ≡ true
 digits c l = all_run c.args.text.now (omega arith)
 
-pub overflow-sub-b : goal.overflow-sub-b
-overflow-sub-b c = (digit_in c.args.text.now c.loop-b.b-index (digits (goal.at.overflow-sub-b c).After-run c.if-run-text.false) c.loop-b-test.true).0
+pub overflow_sub-b : goal.overflow_sub-b
+overflow_sub-b c = (digit_in c.args.text.now c.loop-b.b-index (digits (goal.at.overflow_sub-b c).After-run c.if-run-text.false) c.loop-b-test.true).0
 
 pub loop-b-preserved : goal.loop-b-preserved
 loop-b-preserved c =

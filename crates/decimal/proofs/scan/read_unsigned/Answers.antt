@@ -5,7 +5,7 @@ use Rattle.decimal.proofs.scan.read_unsigned.Goals as goal
 
 pub returns-in-46 : goal.returns-in-46
 returns-in-46 c =
-    let r = c.split-at.result.1.now in
-    let e : c.read-behind.result ≡ at_point c.args.negative c.split-at.result.0.now (drop 1 r) =
-    c.read-behind.ensures.value ∙ ap (at_point c.args.negative c.split-at.result.0.now) (take_rest r 1) in
+    let r = c.split_at.result.1.now in
+    let e : c.read_behind.result ≡ at_point c.args.negative c.split_at.result.0.now (drop 1 r) =
+    c.read_behind.ensures.value ∙ ap (at_point c.args.negative c.split_at.result.0.now) (take_rest r 1) in
     search (rules, e)

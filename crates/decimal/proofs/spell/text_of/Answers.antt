@@ -1,11 +1,10 @@
-use Rattle.std.proofs.Common.{◌≡◌, ℕ, ◌-◌, true, take, Some, None, sym, ap, ◌∙◌, subst, arith}
+use Rattle.std.proofs.Common.{◌≡◌, ℕ, ◌-◌, take, Some, ap, ◌∙◌, arith}
 use Rattle.std.proofs.lemmas.Bool.{cond-true}
-use Rattle.protocol.specs.Held.{text_bytes}
-use Rattle.protocol.specs.Texts.{text_of, textual}
+use Rattle.protocol.specs.Texts.{text_of}
 use Rattle.decimal.specs.Spelling.{spelling}
 use Rattle.decimal.proofs.Plain.{spelling_textual}
 use Rattle.decimal.proofs.spell.text_of.Goals as goal
-use Rattle.decimal.proofs.spell.text_of.Goals.{After-spell-line, at·unreachable-requires, at·returns}
+use Rattle.decimal.proofs.spell.text_of.Goals.{After-spell-line, In-None, In-Some}
 
 -- the bytes that are made a text
 made : (c : goal.After-spell-line) → text_of (take (c.spell-line.result.len - 0) c.spell-line.result.bytes) ≡ Some (spelling c.args.real)

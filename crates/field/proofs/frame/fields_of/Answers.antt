@@ -2,10 +2,10 @@ use Rattle.std.proofs.Common.{sym}
 use Rattle.field.proofs.Braces.{fields-there, no_text, body-ends}
 use Rattle.field.proofs.frame.fields_of.Goals as goal
 
-pub returns-in-default-from-utf8 : goal.returns-in-default-from-utf8
-returns-in-default-from-utf8 c =
+pub returns-in_default-from_utf8 : goal.returns-in_default-from_utf8
+returns-in_default-from_utf8 c =
     record {
-      fields = sym (no_text c.args.packet.now c.in-Some.body.now c.if-packet-gt512.false c.in-Some.ensures c.in-default-from-utf8.ensures.cases.0);
+      fields = sym (no_text c.args.packet.now c.in-Some.body.now c.if-packet-gt512.false c.in-Some.ensures c.in_default-from_utf8.ensures.cases.0);
       place = tt;
     }
 

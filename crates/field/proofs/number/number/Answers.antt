@@ -5,7 +5,7 @@ use Rattle.field.proofs.number.number.Goals as goal
 
 pub returns-then-n-top : goal.returns-then-n-top
 returns-then-n-top c =
-    let same = c.as-bytes-bytes.ensures.value in
+    let same = c.as_bytes-bytes.ensures.value in
     let e = c.if-bytes-gt1.either in
     let plus : get_or c.args.text.now 0 0 ≡ 43 → ⊥ = search rules in
     let lead : get_or c.args.text.now 0 0 ≡ 48 → length c.args.text.now ≤ 1 = search rules in
@@ -14,7 +14,7 @@ returns-then-n-top c =
 
 pub returns-in-Err : goal.returns-in-Err
 returns-in-Err c =
-    let same = c.as-bytes-bytes.ensures.value in
+    let same = c.as_bytes-bytes.ensures.value in
     let e = c.if-bytes-gt1.either in
     let plus : get_or c.args.text.now 0 0 ≡ 43 → ⊥ = search rules in
     let lead : get_or c.args.text.now 0 0 ≡ 48 → length c.args.text.now ≤ 1 = search rules in

@@ -6,7 +6,7 @@ use Rattle.value.proofs.read.read_sh.Goals as goal
 
 pub returns : goal.returns
 returns c =
-    let b = c.in-ok-n.ensures.within in
-    let f : SFits w64 c.in-ok-n.n = search rules in
-    let g : SFits w16 c.in-ok-n.n = search rules in
-    record { value = simp to_z-of_z (ap (option_map whole) c.in-ok-n.ensures.value); kind = refl }
+    let b = c.in_ok-n.ensures.within in
+    let f : SFits w64 c.in_ok-n.n = search rules in
+    let g : SFits w16 c.in_ok-n.n = search rules in
+    record { value = simp to_z-of_z (ap (option_map whole) c.in_ok-n.ensures.value); kind = refl }

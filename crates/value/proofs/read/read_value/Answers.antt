@@ -9,6 +9,6 @@ pub returns : goal.returns
 returns c =
     let k = c.args.kind in
     let bs = c.args.text.now in
-    let m = text_made bs (text_bytes c.in-ok-new.field-0) c.in-ok-new.ensures in
-    let e = c.read-text.ensures.value ∙ ap (read_as k) m.1 ∙ sym (cond-true _ _ _ m.0) in
-    record { value = e; kind = c.read-text.ensures.kind; again = reading_valid k bs c.read-text.result e }
+    let m = text_made bs (text_bytes c.in_ok-new.field-0) c.in_ok-new.ensures in
+    let e = c.read_text.ensures.value ∙ ap (read_as k) m.1 ∙ sym (cond-true _ _ _ m.0) in
+    record { value = e; kind = c.read_text.ensures.kind; again = reading_valid k bs c.read_text.result e }

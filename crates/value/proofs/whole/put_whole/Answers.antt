@@ -12,8 +12,8 @@ returns c =
     let n = c.args.n in
     let row = c.args.row.now in
     let f = c.ranges.n in
-    let bs = c.as-bytes.result.now in
-    let d : bs ≡ decimal (nat_abs n) = c.as-bytes.ensures ∙ c.new-digits.ensures ∙ ap decimal (simp to_z-of_z at c.unsigned-abs.ensures.value) in
+    let bs = c.as_bytes.result.now in
+    let d : bs ≡ decimal (nat_abs n) = c.as_bytes.ensures ∙ c.new-digits.ensures ∙ ap decimal (simp to_z-of_z at c.unsigned_abs.ensures.value) in
     elim c.if-n-lt0.branch [
       | then-n-lt0 w ↦
           let t : fits row 0 (45 ∷ []) ≡ true = le-leb _ _ (omega arith) in

@@ -7,8 +7,8 @@ use Rattle.field.proofs.fields.Fields.next_field.Goals as goal
 
 pub returns-in-Some : goal.returns-in-Some
 returns-in-Some c =
-    let was = c.in-ok-rest.was in
-    let rest = c.in-ok-rest.rest in
+    let was = c.in_ok-rest.was in
+    let rest = c.in_ok-rest.rest in
     let bs = rest.text.now in
     let text = c.in-Some.text.now in
     let behind = c.in-Some.behind.now in
@@ -18,14 +18,14 @@ returns-in-Some c =
     record {
       field = sym (ap first e);
       after = sym (ap (drop 1) e);
-      place = λ packet h. subst (λ k. Ends packet k text) (sym c.saturating-sub-end.ensures) (front_ends packet bs text behind rest.end parts (subst (Found packet) was h));
+      place = λ packet h. subst (λ k. Ends packet k text) (sym c.saturating_sub-end.ensures) (front_ends packet bs text behind rest.end parts (subst (Found packet) was h));
       onward = λ packet h. behind-ends packet bs text behind rest.end parts (subst (Found packet) was h);
     }
 
 pub returns-in-None : goal.returns-in-None
 returns-in-None c =
-    let was = c.in-ok-rest.was in
-    let bs = c.in-ok-rest.rest.text.now in
+    let was = c.in_ok-rest.was in
+    let bs = c.in_ok-rest.rest.text.now in
     let e = ap fields_in was ∙ split_is bs None c.in-None.ensures.cases in
     record {
       field = sym (ap first e);

@@ -6,18 +6,18 @@ use Rattle.value.specs.declared.value.Value.TheVariants as V
 use Rattle.value.proofs.Readings.{truth_textual, spells}
 use Rattle.value.proofs.value.Value.spelling.Goals as goal
 
-pub text-of-requires : goal.text-of-requires
-text-of-requires c = search (truth_textual true, truth_textual false)
+pub text_of-requires : goal.text_of-requires
+text_of-requires c = search (truth_textual true, truth_textual false)
 
-pub text-of-requires-in-Bo-false : goal.text-of-requires-in-Bo-false
-text-of-requires-in-Bo-false c = search (truth_textual true, truth_textual false)
+pub text_of-requires-in-Bo-false : goal.text_of-requires-in-Bo-false
+text_of-requires-in-Bo-false c = search (truth_textual true, truth_textual false)
 
 pub returns-in-In : goal.returns-in-In
 returns-in-In c =
     let n = c.in-In.n in
     let g : SFits w32 n = search rules in
     let f : SFits w64 n = search rules in
-    let s = spells c.args.self.now (V.In n) (text_bytes c.spell-whole.result) c.in-In.is g (simp to_z-of_z at c.spell-whole.ensures) in
+    let s = spells c.args.self.now (V.In n) (text_bytes c.spell_whole.result) c.in-In.is g (simp to_z-of_z at c.spell_whole.ensures) in
     record { bytes = s.bytes; back = s.back; plain = s.plain; once = s.once }
 
 pub returns-in-Sh : goal.returns-in-Sh
@@ -25,7 +25,7 @@ returns-in-Sh c =
     let n = c.in-Sh.n in
     let g : SFits w16 n = search rules in
     let f : SFits w64 n = search rules in
-    let s = spells c.args.self.now (V.Sh n) (text_bytes c.spell-whole-in-Sh.result) c.in-Sh.is g (simp to_z-of_z at c.spell-whole-in-Sh.ensures) in
+    let s = spells c.args.self.now (V.Sh n) (text_bytes c.spell_whole-in-Sh.result) c.in-Sh.is g (simp to_z-of_z at c.spell_whole-in-Sh.ensures) in
     record { bytes = s.bytes; back = s.back; plain = s.plain; once = s.once }
 
 pub returns-in-USh : goal.returns-in-USh
@@ -33,14 +33,14 @@ returns-in-USh c =
     let n = c.in-USh.n in
     let g : n < 2 ^ 16 = search rules in
     let p : to_z w64 n ≡ pos n = omega (arith, ints) in
-    let s = spells c.args.self.now (V.USh n) (text_bytes c.spell-whole-in-USh.result) c.in-USh.is g (c.spell-whole-in-USh.ensures ∙ ap signed_decimal p) in
+    let s = spells c.args.self.now (V.USh n) (text_bytes c.spell_whole-in-USh.result) c.in-USh.is g (c.spell_whole-in-USh.ensures ∙ ap signed_decimal p) in
     record { bytes = s.bytes; back = s.back; plain = s.plain; once = s.once }
 
 pub returns-in-Lo : goal.returns-in-Lo
 returns-in-Lo c =
     let n = c.in-Lo.long.number in
     let f : SFits w64 n = search rules in
-    let s = spells c.args.self.now (V.Lo c.in-Lo.long) (text_bytes c.spell-whole-in-Lo.result) c.in-Lo.is tt (simp to_z-of_z at c.spell-whole-in-Lo.ensures) in
+    let s = spells c.args.self.now (V.Lo c.in-Lo.long) (text_bytes c.spell_whole-in-Lo.result) c.in-Lo.is tt (simp to_z-of_z at c.spell_whole-in-Lo.ensures) in
     record { bytes = s.bytes; back = s.back; plain = s.plain; once = s.once }
 
 pub returns-in-Si : goal.returns-in-Si
@@ -58,5 +58,5 @@ returns-in-By c =
     let n = c.in-By.n in
     let g : n < 2 ^ 8 = search rules in
     let p : to_z w64 n ≡ pos n = omega (arith, ints) in
-    let s = spells c.args.self.now (V.By n) (text_bytes c.spell-whole-in-By.result) c.in-By.is g (c.spell-whole-in-By.ensures ∙ ap signed_decimal p) in
+    let s = spells c.args.self.now (V.By n) (text_bytes c.spell_whole-in-By.result) c.in-By.is g (c.spell_whole-in-By.ensures ∙ ap signed_decimal p) in
     record { bytes = s.bytes; back = s.back; plain = s.plain; once = s.once }
