@@ -9,10 +9,10 @@ use Rattle.packet.specs.Messages.{Content, command_of, count_of}
 use Rattle.writer.specs.Bytes.{bytes_of}
 use Rattle.writer.specs.Orders.{asked}
 use Rattle.writer.specs.Written.{Writing, at_start, written, ReadsBack}
-use Rattle.slab.specs.Places.{piece, part_of}
-use Rattle.slab.specs.Rows.{rowed}
-use Rattle.slab.specs.declared.place.Place.TheVariants.{Slab}
-use Rattle.slab.proofs.Written.{part_written}
+use Rattle.slab_rows.specs.Places.{piece, part_of}
+use Rattle.slab_rows.specs.Rows.{rowed}
+use Rattle.slab_rows.specs.declared.place.Place.TheVariants.{Slab}
+use Rattle.slab_rows.proofs.Written.{part_written}
 use Rattle.catalogue.specs.declared.partner.Partner.{Partner}
 use Rattle.catalogue.specs.declared.told.Sent.{Sent}
 use Rattle.catalogue.specs.Stations.{Station, untimely, unknown}

@@ -11,7 +11,7 @@ use Rattle.packet.specs.declared.packet.Packet.{Packet}
 use Rattle.writer.specs.Bytes.{bytes_of}
 use Rattle.writer.specs.Orders.{asked}
 use Rattle.writer.specs.Written.{ReadsBack}
-use Rattle.slab.specs.Places.{piece}
+use Rattle.slab_rows.specs.Places.{piece}
 use Rattle.catalogue.specs.declared.partner.Partner.{Partner}
 use Rattle.catalogue.specs.declared.partner.Waiting.{Waiting}
 use Rattle.catalogue.specs.declared.told.Counts.{Counts}

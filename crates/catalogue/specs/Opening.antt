@@ -5,8 +5,8 @@ use Rattle.protocol.specs.declared.refusal.Refusal.TheVariants.{Time, ShortMemor
 use Rattle.packet.specs.Messages.{Content, command_of, count_of}
 use Rattle.writer.specs.Bytes.{bytes_of}
 use Rattle.writer.specs.Orders.{asked}
-use Rattle.slab.specs.Rows.{rowed}
-use Rattle.slab.specs.declared.place.Place.TheVariants.{Slab}
+use Rattle.slab_rows.specs.Rows.{rowed}
+use Rattle.slab_rows.specs.declared.place.Place.TheVariants.{Slab}
 use Rattle.catalogue.specs.declared.partner.Partner.{Partner}
 use Rattle.catalogue.specs.declared.told.Counts.{Counts}
 use Rattle.catalogue.specs.declared.told.Sent.{Sent}

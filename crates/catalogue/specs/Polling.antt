@@ -2,7 +2,7 @@
 use Rattle.std.specs.Prelude.{ℕ, ◌+◌, ◌*◌, Bool, cond, ◌||◌, List, Some, None, Ok, Err, Option, Result, nat_le, nat_lt, slice_set}
 use Rattle.protocol.specs.declared.refusal.Refusal.{Refusal}
 use Rattle.protocol.specs.declared.refusal.Refusal.TheVariants.{Time, Unknown}
-use Rattle.slab.specs.declared.place.Place.TheVariants.{Slab}
+use Rattle.slab_rows.specs.declared.place.Place.TheVariants.{Slab}
 use Rattle.catalogue.specs.declared.partner.Partner.{Partner}
 use Rattle.catalogue.specs.declared.partner.Waiting.{Waiting}
 use Rattle.catalogue.specs.declared.told.Counts.{Counts}

@@ -3,9 +3,9 @@ use Rattle.std.specs.Prelude.{◌≡◌, ℕ, ◌+◌, ◌≤◌, List, length, 
 use Rattle.protocol.specs.declared.refusal.Refusal.{Refusal}
 use Rattle.packet.specs.Messages.{Content, packet_of}
 use Rattle.writer.specs.Orders.{asked}
-use Rattle.slab.specs.Places.{part_of}
-use Rattle.slab.specs.declared.place.Place.{Place}
-use Rattle.slab.specs.declared.place.Place.TheVariants.{Slab, Reply}
+use Rattle.slab_rows.specs.Places.{part_of}
+use Rattle.slab_rows.specs.declared.place.Place.{Place}
+use Rattle.slab_rows.specs.declared.place.Place.TheVariants.{Slab, Reply}
 use Rattle.catalogue.specs.declared.told.Counts.{Counts}
 use Rattle.catalogue.specs.declared.told.Poll.{Poll}
 use Rattle.catalogue.specs.declared.told.Poll.TheVariants.{NothingDue, Again, Failed}

@@ -3,8 +3,8 @@ use Rattle.std.specs.Prelude.{ℕ, ◌+◌, Bool, cond, ◌&&◌, List, length, 
 use Rattle.protocol.specs.declared.refusal.Refusal.{Refusal}
 use Rattle.protocol.specs.declared.refusal.Refusal.TheVariants.{ShortMemory, Direction, Unknown, NoMatch}
 use Rattle.protocol.specs.Rows.{put_at}
-use Rattle.slab.specs.declared.place.Place.{Place}
-use Rattle.slab.specs.declared.place.Place.TheVariants.{Reply}
+use Rattle.slab_rows.specs.declared.place.Place.{Place}
+use Rattle.slab_rows.specs.declared.place.Place.TheVariants.{Reply}
 use Rattle.field.specs.Words.{command_number}
 use Rattle.packet.specs.Messages.{Message, Content, read_request, write_request, discovery_request, read_answer, write_answer, discovery_answer, command_of, count_of, packet_of}
 use Rattle.catalogue.specs.declared.partner.Partner.{Partner}

@@ -5,7 +5,7 @@ ghost use Rattle.catalogue.specs.Receiving.{discovering, discovery_read};
 
 use packet::packet::{Body, Packet, read_packet};
 use protocol::refusal::Refusal;
-use slab::place::Place;
+use slab_rows::place::Place;
 use writer::requests::write_discovery_request;
 
 /// Writes a Discovery request to the start of the reply buffer.

@@ -1,6 +1,6 @@
 //! Making a catalogue, and enlisting its partners.
 ghost use Rattle.std.specs.Prelude.{◌≡◌};
-ghost use Rattle.slab.specs.Places.{told};
+ghost use Rattle.slab_rows.specs.Places.{told};
 ghost use Rattle.catalogue.specs.Stations.{timely, making, enlisting};
 ghost use Rattle.catalogue.specs.Views.{station_of};
 

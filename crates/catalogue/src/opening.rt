@@ -2,7 +2,7 @@
 ghost use Rattle.std.specs.Prelude.{◌≡◌, ◌*◌, ◌<◌, ◌≤◌, map, IfOk};
 ghost use Rattle.packet.specs.Messages.{read_request, write_request};
 ghost use Rattle.writer.specs.Orders.{counted, change_of, changes_allowed};
-ghost use Rattle.slab.specs.declared.place.Place.TheVariants.{Slab};
+ghost use Rattle.slab_rows.specs.declared.place.Place.TheVariants.{Slab};
 ghost use Rattle.catalogue.specs.Opening.{opening, count_opened};
 ghost use Rattle.catalogue.specs.Judging.{judged, Free, asked_by, placed};
 ghost use Rattle.catalogue.specs.Promises.{tallied_opening, Others, Elsewhere, Back};
@@ -13,7 +13,7 @@ use crate::partner::{Partner, Waiting};
 use crate::told::Sent;
 use field::words::Command;
 use protocol::refusal::Refusal;
-use slab::place::Place;
+use slab_rows::place::Place;
 use writer::change::Change;
 use writer::limits::{changes_allowed, indices_allowed};
 use writer::requests::{write_read_request, write_write_request};

@@ -9,7 +9,7 @@ use crate::catalogue::Catalogue;
 use crate::partner::{Partner, Waiting};
 use crate::told::Poll;
 use protocol::refusal::Refusal;
-use slab::place::Place;
+use slab_rows::place::Place;
 
 impl Waiting {
     /// The transaction sent again: from this time on, the doubled interval.

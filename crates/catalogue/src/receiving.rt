@@ -1,7 +1,7 @@
 //! Receiving answers.
 ghost use Rattle.std.specs.Prelude.{◌≡◌, IfOk};
 ghost use Rattle.packet.specs.Packets.{message_of, seen, Counted, PacketWithin};
-ghost use Rattle.slab.specs.Places.{told};
+ghost use Rattle.slab_rows.specs.Places.{told};
 ghost use Rattle.catalogue.specs.Stations.{partner_at};
 ghost use Rattle.catalogue.specs.Receiving.{agrees, by_content, receiving};
 ghost use Rattle.catalogue.specs.Promises.{tallied_receiving, Others};

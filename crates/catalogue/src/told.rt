@@ -1,5 +1,5 @@
 //! What the calls of a catalogue tell.
-use slab::place::Place;
+use slab_rows::place::Place;
 
 /// A transaction that was opened: its number, and where the packet to send lies.
 #[derive(Clone, Copy)]

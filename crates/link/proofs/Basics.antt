@@ -3,7 +3,7 @@ use Rattle.std.proofs.Common.{◌≡◌, ℕ, zero, suc, ◌<◌, ◌≤◌, Boo
 use Rattle.std.specs.Str.{bytes_eq}
 use Rattle.std.proofs.lemmas.Slice.Eq.{bytes_eq-Decides}
 use Rattle.std.proofs.lemmas.Bool.{eq-eqb, true≢false}
-use Rattle.slab.specs.Searches.{first_by}
+use Rattle.slab_rows.specs.Searches.{first_by}
 use Rattle.link.specs.Calls.{Mem}
 
 pub eqb_self : (n : ℕ) → eqb n n ≡ true

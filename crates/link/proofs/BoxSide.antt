@@ -10,8 +10,8 @@ use Rattle.std.proofs.lemmas.Bool.{and_parts, and_left, and_right, and_from, cas
 use Rattle.protocol.specs.declared.refusal.Refusal.{Refusal}
 use Rattle.packet.specs.Messages.{Message, discovery_request, packet_of}
 use Rattle.writer.specs.Bytes.{bytes_of}
-use Rattle.slab.specs.Searches.{first_by}
-use Rattle.slab.specs.Rows.{rowed, in_row}
+use Rattle.slab_rows.specs.Searches.{first_by}
+use Rattle.slab_rows.specs.Rows.{rowed, in_row}
 use Rattle.store.specs.Contents.{Contents, Sound}
 use Rattle.store.specs.Owner.{owner_write_of}
 use Rattle.store.proofs.Texted.{owner_texted, texted_sound}

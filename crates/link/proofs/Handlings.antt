@@ -8,7 +8,7 @@ use Rattle.protocol.specs.declared.refusal.Refusal.{Refusal}
 use Rattle.protocol.specs.declared.refusal.Refusal.TheVariants.{ShortMemory, Direction, Unknown, OldNumber}
 use Rattle.packet.specs.Messages.{Message, Content, read_request, write_request, discovery_request, read_answer, write_answer, discovery_answer, packet_of}
 use Rattle.writer.specs.Bytes.{bytes_of}
-use Rattle.slab.specs.Searches.{first_by}
+use Rattle.slab_rows.specs.Searches.{first_by}
 use Rattle.mount_box.specs.declared.senders.SenderRecord.{SenderRecord}
 use Rattle.mount_box.specs.Senders.{blank, is_of, is_empty, repeated, due, by_number}
 use Rattle.mount_box.specs.Handling.{Box, Handling, refused, reply_to, discovered, kept, carried, by_standing, by_content, by_packet, short, handled}

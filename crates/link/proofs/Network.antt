@@ -13,8 +13,8 @@ use Rattle.field.specs.declared.words.Direction.TheVariants as D
 use Rattle.packet.specs.Messages.{Message, Content, discovery_request, direction_of, command_of, packet_of}
 use Rattle.writer.specs.Bytes.{bytes_of}
 use Rattle.writer.specs.Orders.{asked, answered}
-use Rattle.slab.specs.Rows.{rowed}
-use Rattle.slab.specs.declared.place.Place.TheVariants.{Slab}
+use Rattle.slab_rows.specs.Rows.{rowed}
+use Rattle.slab_rows.specs.declared.place.Place.TheVariants.{Slab}
 use Rattle.store.specs.Contents.{Contents}
 use Rattle.mount_box.specs.Carrying.{replied}
 use Rattle.mount_box.specs.Handling.{reply_to}

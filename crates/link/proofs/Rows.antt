@@ -4,9 +4,9 @@ use Rattle.std.proofs.lemmas.List.{take_at, drop_at, drop-append-le, take-append
 use Rattle.std.proofs.lemmas.Bool.{le-leb, cases_lt}
 use Rattle.protocol.specs.Rows.{put_at}
 use Rattle.protocol.proofs.Writes.{length_put}
-use Rattle.slab.specs.Rows.{rowed, in_row}
-use Rattle.slab.specs.Places.{part_of}
-use Rattle.slab.specs.declared.place.Place.TheVariants.{Slab, Reply}
+use Rattle.slab_rows.specs.Rows.{rowed, in_row}
+use Rattle.slab_rows.specs.Places.{part_of}
+use Rattle.slab_rows.specs.declared.place.Place.TheVariants.{Slab, Reply}
 
 -- what lies in the front part
 in_front : (p q : List ℕ) (b n : ℕ) → b + n ≤ length p → take n (drop b (p ++ q)) ≡ take n (drop b p)

@@ -7,8 +7,8 @@ use Rattle.protocol.specs.declared.refusal.Refusal.{Refusal}
 use Rattle.packet.specs.Messages.{Message, Content, read_request, write_request}
 use Rattle.writer.specs.Orders.{counted, changes_allowed, change_of}
 use Rattle.writer.specs.declared.change.Change.{Change}
-use Rattle.slab.specs.Places.{part_of}
-use Rattle.slab.specs.declared.place.Place.{Place}
+use Rattle.slab_rows.specs.Places.{part_of}
+use Rattle.slab_rows.specs.declared.place.Place.{Place}
 use Rattle.catalogue.specs.declared.told.Sent.{Sent}
 use Rattle.catalogue.specs.declared.told.Poll.{Poll}
 use Rattle.catalogue.specs.declared.told.Poll.TheVariants.{NothingDue, Again, Failed}

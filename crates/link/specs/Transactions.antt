@@ -7,7 +7,7 @@ use Rattle.std.specs.Prelude.{◌≡◌, ℕ, zero, suc, ◌+◌, ◌<◌, Bool,
 use Rattle.protocol.specs.declared.refusal.Refusal.{Refusal}
 use Rattle.protocol.specs.declared.refusal.Refusal.TheVariants.{NoneWaits}
 use Rattle.packet.specs.Messages.{Message}
-use Rattle.slab.specs.Searches.{first_by}
+use Rattle.slab_rows.specs.Searches.{first_by}
 use Rattle.catalogue.specs.declared.told.Counts.{Counts}
 use Rattle.catalogue.specs.Stations.{none_counted}
 use Rattle.catalogue.specs.Opening.{count_opened}

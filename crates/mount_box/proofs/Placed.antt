@@ -3,7 +3,7 @@ use Rattle.std.proofs.Common.{◌≡◌, ℕ, ◌+◌, ◌-◌, ◌≤◌, leb, 
 use Rattle.std.proofs.lemmas.List.{length-take-le, length-drop, take_at, drop_at, get_or_append_left, get_or-append_right, get_or-take, get_or-drop}
 use Rattle.std.proofs.lemmas.Bool.{le-leb, cond-true}
 use Rattle.protocol.specs.Rows.{put_at}
-use Rattle.slab.specs.Places.{piece}
+use Rattle.slab_rows.specs.Places.{piece}
 use Rattle.mount_box.specs.Promises.{Outside}
 
 module _ (xs bs : List ℕ) (a : ℕ) (room : a + length bs ≤ length xs) where

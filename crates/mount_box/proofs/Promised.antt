@@ -9,10 +9,10 @@ use Rattle.field.specs.declared.words.Direction.TheVariants.{Request}
 use Rattle.packet.specs.Messages.{Message, Content, read_request, write_request, discovery_request, read_answer, write_answer, discovery_answer, direction_of, packet_of}
 use Rattle.writer.specs.Bytes.{bytes_of}
 use Rattle.protocol.specs.Rows.{put_at}
-use Rattle.slab.specs.Places.{piece, part_of}
-use Rattle.slab.specs.Rows.{rowed}
-use Rattle.slab.specs.declared.place.Place.{Place}
-use Rattle.slab.specs.declared.place.Place.TheVariants.{Slab, Reply}
+use Rattle.slab_rows.specs.Places.{piece, part_of}
+use Rattle.slab_rows.specs.Rows.{rowed}
+use Rattle.slab_rows.specs.declared.place.Place.{Place}
+use Rattle.slab_rows.specs.declared.place.Place.TheVariants.{Slab, Reply}
 use Rattle.store.specs.Contents.{Contents, Sound}
 use Rattle.store.specs.Owner.{write_text_of}
 use Rattle.mount_box.specs.Senders.{blank, noted, is_of, repeated, due, standing}

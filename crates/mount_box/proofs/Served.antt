@@ -11,9 +11,9 @@ use Rattle.protocol.specs.declared.refusal.Refusal.TheVariants.{ShortMemory}
 use Rattle.field.specs.declared.words.Direction.TheVariants.{Request, Answer}
 use Rattle.packet.specs.Messages.{Message, Content, read_request, write_request, discovery_request, read_answer, write_answer, discovery_answer, direction_of, packet_of}
 use Rattle.writer.specs.Bytes.{bytes_of}
-use Rattle.slab.specs.Rows.{rowed}
-use Rattle.slab.specs.declared.place.Place.TheVariants.{Slab, Reply}
-use Rattle.slab.proofs.Written.{part_written}
+use Rattle.slab_rows.specs.Rows.{rowed}
+use Rattle.slab_rows.specs.declared.place.Place.TheVariants.{Slab, Reply}
+use Rattle.slab_rows.proofs.Written.{part_written}
 use Rattle.store.specs.Contents.{Contents, Sound}
 use Rattle.mount_box.specs.declared.senders.SenderRecord.{SenderRecord}
 use Rattle.mount_box.specs.declared.standing.Standing.{Standing}

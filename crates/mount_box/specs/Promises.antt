@@ -8,9 +8,9 @@ use Rattle.protocol.specs.declared.code.Code.{Code}
 use Rattle.protocol.specs.declared.refusal.Refusal.{Refusal}
 use Rattle.packet.specs.Groups.{Readout}
 use Rattle.packet.specs.Messages.{Message, Content, read_request, write_request, discovery_request, read_answer, write_answer, discovery_answer, packet_of}
-use Rattle.slab.specs.Places.{part_of}
-use Rattle.slab.specs.declared.place.Place.{Place}
-use Rattle.slab.specs.declared.place.Place.TheVariants.{Slab, Reply}
+use Rattle.slab_rows.specs.Places.{part_of}
+use Rattle.slab_rows.specs.declared.place.Place.{Place}
+use Rattle.slab_rows.specs.declared.place.Place.TheVariants.{Slab, Reply}
 use Rattle.store.specs.Contents.{Contents}
 use Rattle.store.specs.Owner.{write_text_of}
 use Rattle.mount_box.specs.Senders.{blank, is_of, is_empty, due, standing}

@@ -3,7 +3,7 @@
 use Rattle.std.specs.Prelude.{ℕ, Bool, true, false, cond, not, ◌&&◌, List, Ok, Err, Result, ◌==◌, nat_lt, slice_index_or}
 use Rattle.protocol.specs.declared.refusal.Refusal.{Refusal}
 use Rattle.protocol.specs.declared.refusal.Refusal.TheVariants.{Unknown, OldNumber}
-use Rattle.slab.specs.Searches.{first_by}
+use Rattle.slab_rows.specs.Searches.{first_by}
 use Rattle.mount_box.specs.declared.senders.SenderRecord.{SenderRecord}
 
 -- an empty record

@@ -1,7 +1,7 @@
 -- How what the code holds is seen.
 use Rattle.std.specs.Prelude.{ℕ, List, Result}
 use Rattle.protocol.specs.declared.refusal.Refusal.{Refusal}
-use Rattle.slab.specs.declared.place.Place.{Place}
+use Rattle.slab_rows.specs.declared.place.Place.{Place}
 use Rattle.store.specs.Contents.{Contents}
 use Rattle.mount_box.specs.declared.mount.MountBox.{MountBox}
 use Rattle.mount_box.specs.declared.standing.Standing.{Standing}

@@ -12,7 +12,7 @@ use crate::mount::MountBox;
 use crate::standing::Standing;
 use packet::packet::{Body, Packet, read_packet};
 use protocol::refusal::Refusal;
-use slab::place::Place;
+use slab_rows::place::Place;
 use store::store::Store;
 
 impl<S: Store> MountBox<S> {

@@ -1,8 +1,8 @@
 //! The calls of the sender table: how a request stands, and one record lent to be changed.
 ghost use Rattle.std.specs.Prelude.{◌≡◌, ◌<◌, length, replicate, IfOk, slice_index_or, slice_set};
 ghost use Rattle.std.specs.Borrow.{sem, follows};
-ghost use Rattle.slab.specs.Places.{told};
-ghost use Rattle.slab.specs.Searches.{first_by};
+ghost use Rattle.slab_rows.specs.Places.{told};
+ghost use Rattle.slab_rows.specs.Searches.{first_by};
 ghost use Rattle.mount_box.specs.contracts.senders.SenderRecord.{the_row as record-row};
 ghost use Rattle.mount_box.specs.contracts.table.SenderTable.{the_row as table-row};
 ghost use Rattle.mount_box.specs.Senders.{blank, is_of, is_empty, standing};

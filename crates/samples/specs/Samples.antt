@@ -7,7 +7,7 @@ use Rattle.protocol.specs.declared.kind.Kind.TheVariants.{St}
 use Rattle.protocol.specs.declared.refusal.Refusal.{Refusal}
 use Rattle.value.specs.Values.{value_read, spelled, words}
 use Rattle.packet.specs.Messages.{Message, read_request, packet_of}
-use Rattle.slab.specs.declared.place.Place.{Place}
+use Rattle.slab_rows.specs.declared.place.Place.{Place}
 use Rattle.store.specs.Contents.{Contents, free}
 use Rattle.mount_box.specs.Senders.{blank}
 use Rattle.mount_box.specs.Handling.{Box, Handling, handled}

@@ -1,5 +1,5 @@
 -- A list of calls, one more at a time, and the law of stores over it.
-use Rattle.std.proofs.Common.{◌≡◌, ℕ, zero, suc, ◌+◌, ◌<◌, ◌≤◌, Bool, true, false, cond, leb, List, [], ◌∷◌, ◌++◌, map, length, get_or, take, drop, sym, refl, ap, ◌∙◌, ap₂, subst₂, append_assoc, append-nil, arith}
+use Rattle.std.proofs.Common.{◌≡◌, ℕ, zero, suc, ◌+◌, ◌<◌, ◌≤◌, true, List, [], ◌∷◌, ◌++◌, map, length, get_or, take, drop, sym, refl, ap, ◌∙◌, ap₂, subst₂, append_assoc, append-nil, arith}
 use Rattle.std.proofs.lemmas.List.{map_push, at_drop_more, at_drop_all}
 use Rattle.store.specs.Contents.{Contents, Reading, typed, found, inside}
 use Rattle.store.specs.Runs.{answered, answer_of, after_step, answers_of, after_of, left_by, latest, Remembers}

@@ -7,7 +7,7 @@ use Rattle.std.proofs.Common.{◌≡◌, ℕ, Bool, true, false, cond, eqb, List
 use Rattle.protocol.specs.declared.kind.Kind.{Kind}
 use Rattle.value.specs.Values.{Datum, value_read}
 use Rattle.value.proofs.Readings.{read_valid}
-use Rattle.store.specs.Contents.{Contents, Element, Sound, Typed, Writing, inside, kind_at, kept, put, barred, write_of}
+use Rattle.store.specs.Contents.{Contents, Element, Sound, Writing, inside, kind_at, kept, put, barred, write_of}
 use Rattle.store.specs.Owner.{mismatched, write_read, owner_write_of, write_as, write_text_of}
 use Rattle.store.proofs.Wrote.{Wrote, outside, nothing, shut, done, wrote, put_sound}
 

@@ -5,7 +5,7 @@
 --     put_sound, write_sound  a write of a value leaves sound contents
 --     kind_same               types with one number are one
 --     write_kinds             the types stay
-use Rattle.std.proofs.Common.{◌≡◌, ℕ, Bool, true, false, cond, not, ◌&&◌, ◌||◌, eqb, ◌⊎◌, Some, None, Option, sym, refl, ap, ◌∙◌, subst, inl, inr, arith}
+use Rattle.std.proofs.Common.{◌≡◌, ℕ, Bool, true, false, cond, not, ◌&&◌, eqb, Some, None, Option, sym, refl, ap, ◌∙◌, inl, inr, arith}
 use Rattle.std.proofs.lemmas.Bool.{cases_Bool, cond-true, cond-false, eqb-true, not-false, or_parts}
 use Rattle.std.proofs.lemmas.Bool.Decides.{nat_tests}
 use Rattle.std.specs.Option.{option_map}
@@ -82,7 +82,7 @@ put_sound c i t ok h v = record {
   ordered = ok.ordered;
   narrow = ok.narrow;
   bounded = λ j n. put_bounded c i t j h n (ok.bounded j n);
-  valid = λ j. put_valid (eqb j i) t (c.element j) v (ok.valid j);
+  valid = λ j. put_valid (eqb i j) t (c.element j) v (ok.valid j);
 }
 
 sound_after : (c : Contents) (i : ℕ) (t : Typed) (w : Writing) → Sound c → Valid t.kind t.datum → Wrote c i t w → Sound w.after
@@ -121,11 +121,11 @@ same_kind e k h =
 
 put_kinds : (c : Contents) (i : ℕ) (t : Typed) (e : Element) (j : ℕ) → c.element i ≡ Some e → e.kind ≡ t.kind → kind_at (put c i t) j ≡ kind_at c j
 put_kinds c i t e j s k =
-    elim (cases_Bool (eqb j i)) [
+    elim (cases_Bool (eqb i j)) [
       | inl h ↦
           ap (option_map (λ x. x.kind)) (cond-true _ _ _ h)
           ∙ ap Some (sym k)
-          ∙ sym (ap (λ n. kind_at c n) (eqb-true j i h) ∙ ap (option_map (λ x. x.kind)) s)
+          ∙ sym (ap (λ n. kind_at c n) (sym (eqb-true i j h)) ∙ ap (option_map (λ x. x.kind)) s)
       | inr h ↦ ap (option_map (λ x. x.kind)) (cond-false _ _ _ h)
     ]
 

@@ -8,7 +8,7 @@ use Rattle.protocol.specs.declared.kind.Kind.TheVariants as K
 use Rattle.value.specs.Values.{Valid, words}
 use Rattle.value.specs.declared.value.Value.TheVariants as V
 use Rattle.value.proofs.Readings.{value_valid}
-use Rattle.store.specs.Contents.{Element, Contents, ValidIn, Sound, inside}
+use Rattle.store.specs.Contents.{Element, ValidIn, Sound, inside}
 use Rattle.store.specs.House.{nought, plate, house_element, house_of}
 
 -- one element more, behind a test

@@ -2,7 +2,7 @@
 use Rattle.std.specs.Prelude.{ℕ, cond, List, Some, None, Option}
 use Rattle.protocol.specs.declared.kind.Kind.{Kind}
 use Rattle.value.specs.Values.{Datum, value_read}
-use Rattle.store.specs.Contents.{Contents, Element, Writing, inside, kept, kind_at, write_of}
+use Rattle.store.specs.Contents.{Contents, Writing, inside, kept, kind_at, write_of}
 
 -- nothing to write for an element: 1 where nothing is, else 2
 abbrev pub mismatched : Option Kind → ℕ

@@ -3,7 +3,7 @@
 --     after_of c ss           what the store means afterwards
 --     latest o i ss rs        what stands at i by the answers alone, where o stood first
 --     Remembers c ss rs after the law of stores over a list of calls
-use Rattle.std.specs.Prelude.{◌≡◌, ℕ, ◌<◌, Bool, true, false, cond, ◌&&◌, List, [], ◌∷◌, length, take, Some, None, Option, ◌==◌, slice_index_or}
+use Rattle.std.specs.Prelude.{◌≡◌, ℕ, ◌<◌, true, cond, ◌&&◌, List, [], ◌∷◌, length, take, Some, Option, ◌==◌, slice_index_or}
 use Rattle.protocol.specs.Words.{code_number}
 use Rattle.store.specs.Contents.{Contents, Element, Reading, typed, free, refused, found, inside, read_of, write_of}
 use Rattle.store.specs.declared.step.Answer.{Answer}

@@ -1,5 +1,5 @@
 -- What a read and a write give, case by case.
-use Rattle.std.specs.Prelude.{◌≡◌, ℕ, Bool, true, false, Some}
+use Rattle.std.specs.Prelude.{◌≡◌, ℕ, true, false, Some}
 use Rattle.std.proofs.Common.{ap, ◌∙◌}
 use Rattle.std.proofs.lemmas.Bool.{cond-true, cond-false}
 use Rattle.store.specs.Contents.{Contents, Element, Typed, inside, found, refused, read_of, kept, put, barred, write_at, write_of}

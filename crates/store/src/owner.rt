@@ -11,7 +11,7 @@ use value::read::read_value;
 
 /// The code of a write with no value to write: outside the limits, nothing there, or the wrong type.
 fn no_value<S: Store>(store: &S, index: u16) -> Code
-    ensures { code_number result ≡ (if inside (meaning store.now) index then mismatched (kind_at (meaning store.now) index) else 3) }
+    ensures { code_number result ≡ (if inside (S.meaning store.now) index then mismatched (kind_at (S.meaning store.now) index) else 3) }
 {
     if !store.covers(index) {
         return Code::OutsideLimits;
@@ -25,8 +25,8 @@ fn no_value<S: Store>(store: &S, index: u16) -> Code
 /// The owner's write: a text as a value of the type named. Outside the limits and nothing there come first; then the
 /// type is wrong where the text does not read as that type, the element is of another, or it is fixed.
 pub fn owner_write<S: Store>(store: &mut S, index: u16, kind: Kind, text: &[u8]) -> Code
-    ensures code { code_number result ≡ (owner_write_of (meaning store.old) index kind text.now).code }
-    ensures after { meaning store.new ≡ (owner_write_of (meaning store.old) index kind text.now).after }
+    ensures code { code_number result ≡ (owner_write_of (S.meaning store.old) index kind text.now).code }
+    ensures after { S.meaning store.new ≡ (owner_write_of (S.meaning store.old) index kind text.now).after }
 {
     match read_value(kind, text) {
         Some(value) => store.write(index, value),
@@ -36,8 +36,8 @@ pub fn owner_write<S: Store>(store: &mut S, index: u16, kind: Kind, text: &[u8])
 
 /// Writes a text as a value of the element's own type, with the codes of the owner's write.
 pub fn write_text<S: Store>(store: &mut S, index: u16, text: &[u8]) -> Code
-    ensures code { code_number result ≡ (write_text_of (meaning store.old) index text.now).code }
-    ensures after { meaning store.new ≡ (write_text_of (meaning store.old) index text.now).after }
+    ensures code { code_number result ≡ (write_text_of (S.meaning store.old) index text.now).code }
+    ensures after { S.meaning store.new ≡ (write_text_of (S.meaning store.old) index text.now).after }
 {
     match store.kind(index) {
         Some(kind) => owner_write(store, index, kind, text),

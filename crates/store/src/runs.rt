@@ -8,8 +8,8 @@ use std::alloc::{AllocError, Global};
 
 /// Makes one call on a store.
 pub fn perform<S: Store>(store: &mut S, step: Step) -> Answer
-    ensures answer { answered result ≡ answer_of (meaning store.old) step }
-    ensures after { meaning store.new ≡ after_step (meaning store.old) step }
+    ensures answer { answered result ≡ answer_of (S.meaning store.old) step }
+    ensures after { S.meaning store.new ≡ after_step (S.meaning store.old) step }
 {
     match step {
         Step::Read(index) => match store.read(index) {
@@ -23,9 +23,9 @@ pub fn perform<S: Store>(store: &mut S, step: Step) -> Answer
 /// Makes the calls in order and tells what each was answered. The memory for the answers is taken first: without it
 /// no call is made.
 pub fn run<S: Store>(heap: Global, store: &mut S, steps: &[Step]) -> Result<Vec<Answer>, AllocError>
-    ensures answers { IfOk result (λ v. map answered v.items ≡ answers_of (meaning store.old) steps.now) }
-    ensures after { meaning store.new ≡ (if is_ok result then after_of (meaning store.old) steps.now else meaning store.old) }
-    ensures remembers { IfOk result (λ v. Remembers (meaning store.old) steps.now (map answered v.items) (meaning store.new)) }
+    ensures answers { IfOk result (λ v. map answered v.items ≡ answers_of (S.meaning store.old) steps.now) }
+    ensures after { S.meaning store.new ≡ (if is_ok result then after_of (S.meaning store.old) steps.now else S.meaning store.old) }
+    ensures remembers { IfOk result (λ v. Remembers (S.meaning store.old) steps.now (map answered v.items) (S.meaning store.new)) }
 {
     let mut answers = Vec::with_capacity(heap, steps.len())?;
     for step in steps {

@@ -1,7 +1,7 @@
 -- Whole numbers as text: digits with an optional minus, no leading zero, and no minus zero.
 --     whole_of lo hi bs      the number from lo to hi that the text bs writes, if it writes one
 --     long_least, long_most  the ends of the long whole numbers
-use Rattle.std.specs.Prelude.{ℕ, Bool, true, false, cond, not, ◌&&◌, ◌||◌, List, [], ◌∷◌, length, drop, ℤ, pos, negsuc, neg_ℤ, Some, None, Option, ◌==◌, int_le, slice_index}
+use Rattle.std.specs.Prelude.{ℕ, Bool, false, cond, not, ◌&&◌, ◌||◌, List, [], ◌∷◌, length, drop, ℤ, pos, negsuc, neg_ℤ, Some, None, Option, ◌==◌, int_le, slice_index}
 use Rattle.std.specs.Str.Parse.{digits_value, starts_with_minus}
 use Rattle.std.specs.Int.{is_in_range}
 use Rattle.std.specs.Str.{all_ascii_digits}

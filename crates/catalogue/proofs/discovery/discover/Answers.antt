@@ -6,7 +6,7 @@ use Rattle.packet.specs.Messages.{discovery_request}
 use Rattle.writer.specs.Bytes.{bytes_of}
 use Rattle.writer.specs.Orders.{asked}
 use Rattle.writer.specs.Written.{Writing, refused, at_start}
-use Rattle.slab.specs.declared.place.Place.TheVariants.{Reply}
+use Rattle.slab_rows.specs.declared.place.Place.TheVariants.{Reply}
 use Rattle.catalogue.specs.Receiving.{Discovering, discovery_bytes, discovering}
 use Rattle.catalogue.proofs.discovery.discover.Goals as goal
 

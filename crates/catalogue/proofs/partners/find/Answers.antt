@@ -1,5 +1,5 @@
 use Rattle.std.proofs.Common.{◌≡◌, true, false, get_or, arith, rules, eq-eqb}
-use Rattle.slab.proofs.Firsts.{first_here, first_more, first_all}
+use Rattle.slab_rows.proofs.Firsts.{first_here, first_more, first_all}
 use Rattle.catalogue.specs.Stations.{at_address, newcomer}
 use Rattle.catalogue.proofs.partners.find.Goals as goal
 

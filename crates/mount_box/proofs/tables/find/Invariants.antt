@@ -1,5 +1,5 @@
 use Rattle.std.proofs.Common.{◌≡◌, ◌+◌, drop}
-use Rattle.slab.specs.Searches.{first_by}
+use Rattle.slab_rows.specs.Searches.{first_by}
 use Rattle.mount_box.specs.Senders.{is_of}
 use Rattle.mount_box.proofs.tables.find.Given as goal
 

@@ -1,5 +1,5 @@
 use Rattle.std.proofs.Common.{not, ap, arith}
-use Rattle.slab.proofs.Firsts.{first_here, first_more, first_all}
+use Rattle.slab_rows.proofs.Firsts.{first_here, first_more, first_all}
 use Rattle.mount_box.specs.Senders.{is_empty, blank}
 use Rattle.mount_box.proofs.tables.find_empty.Goals as goal
 

@@ -7,14 +7,14 @@ use Rattle.packet.proofs.head.read_head.Goals as goal
 pub returns : goal.returns
 returns c =
     let f₀ = fields_left c.args.fields.now in
-    let f₁ = fields_left c.next-field-version.new.self in
-    let f₂ = fields_left c.next-field-direction.new.self in
-    let f₃ = fields_left c.next-field-number.new.self in
-    let f₄ = fields_left c.next-field-command.new.self in
-    let a = c.next-field-version.ensures in
-    let b = c.next-field-direction.ensures in
-    let d = c.next-field-number.ensures in
-    let e = c.next-field-command.ensures in
+    let f₁ = fields_left c.next_field-version.new.self in
+    let f₂ = fields_left c.next_field-direction.new.self in
+    let f₃ = fields_left c.next_field-number.new.self in
+    let f₄ = fields_left c.next_field-command.new.self in
+    let a = c.next_field-version.ensures in
+    let b = c.next_field-direction.ensures in
+    let d = c.next_field-number.ensures in
+    let e = c.next_field-command.ensures in
     let p = a.field in
     let q = b.field ∙ ap first a.after in
     let r = d.field ∙ ap first (after_two f₀ f₁ f₂ f₃ a.after b.after d.after) in

@@ -8,5 +8,5 @@ returns-in-Ok c =
       read = search rules;
       count = c.in-Ok.ensures.count;
       fields = refl;
-      place = λ packet h. (h, c.in-Ok.ensures.place packet (subst (Found packet) c.in-Some.is (c.read-head.ensures.onward packet h)));
+      place = λ packet h. (h, c.in-Ok.ensures.place packet (subst (Found packet) c.in-Some.is (c.read_head.ensures.onward packet h)));
     }

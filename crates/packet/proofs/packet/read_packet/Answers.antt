@@ -8,10 +8,10 @@ use Rattle.packet.proofs.packet.read_packet.Goals as goal
 pub returns : goal.returns
 returns c =
     let bytes = c.args.bytes.now in
-    let r = c.read-fields.result in
-    let all = c.in-ok-fields-of.ensures in
-    let told = c.read-fields.ensures in
-    let read = told.read ∙ ap after_frame {x = Ok (fields_left c.in-ok-fields-of.field-0)} all.fields in
+    let r = c.read_fields.result in
+    let all = c.in_ok-fields_of.ensures in
+    let told = c.read_fields.ensures in
+    let read = told.read ∙ ap after_frame {x = Ok (fields_left c.in_ok-fields_of.field-0)} all.fields in
     record {
       read = read;
       count = told.count;

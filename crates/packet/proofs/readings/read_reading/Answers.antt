@@ -8,12 +8,12 @@ use Rattle.packet.proofs.readings.read_reading.Goals as goal
 pub returns : goal.returns
 returns c =
     let f₀ = fields_left c.args.fields.now in
-    let f₁ = fields_left c.next-field-code.new.self in
-    let f₂ = fields_left c.next-field-word.new.self in
-    let f₃ = fields_left c.next-field-text.new.self in
-    let a = c.next-field-code.ensures in
-    let b = c.next-field-word.ensures in
-    let d = c.next-field-text.ensures in
+    let f₁ = fields_left c.next_field-code.new.self in
+    let f₂ = fields_left c.next_field-word.new.self in
+    let f₃ = fields_left c.next_field-text.new.self in
+    let a = c.next_field-code.ensures in
+    let b = c.next_field-word.ensures in
+    let d = c.next_field-text.ensures in
     let q = b.field ∙ ap first a.after in
     let r = d.field ∙ ap first (after_two f₀ f₁ f₂ f₃ a.after b.after d.after) in
     record {

@@ -1,4 +1,4 @@
-use Rattle.std.proofs.Common.{◌≡◌, map, vec_items, ◌∙◌, arith}
+use Rattle.std.proofs.Common.{map, vec_items, ◌∙◌, arith}
 use Rattle.store.specs.Runs.{answered}
 use Rattle.store.proofs.Remembering.{answers_more, after_more, answers_all, after_all, remembers_as}
 use Rattle.store.proofs.runs.run.Goals as goal
@@ -10,7 +10,7 @@ loop-step-preserved g c =
     let xs = c.args.steps.now in
     let k = c.loop-step.step-index in
     let x = c.step-item.result in (
-      answers_more m n (vec_items c.loop-step.answers) (vec_items c.push-reserved.new.self) xs k x c.perform.result c.loop-step-test.true c.step-item.is c.perform.ensures.answer c.perform.ensures.after c.push-reserved.ensures.items
+      answers_more m n (vec_items c.loop-step.answers) (vec_items c.push_reserved.new.self) xs k x c.perform.result c.loop-step-test.true c.step-item.is c.perform.ensures.answer c.perform.ensures.after c.push_reserved.ensures.items
           ∙ c.loop-step.invariant.0,
       after_more m n xs k x c.loop-step-test.true c.step-item.is c.perform.ensures.after ∙ c.loop-step.invariant.1,
       omega arith,

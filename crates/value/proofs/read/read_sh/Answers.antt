@@ -1,4 +1,4 @@
-use Rattle.std.proofs.Common.{sym, refl, ap, w16, w64, SFits, rules}
+use Rattle.std.proofs.Common.{refl, ap, w16, w64, SFits, rules}
 use Rattle.std.specs.Option.{option_map}
 use Rattle.std.proofs.lemmas.Int.{to_z-of_z}
 use Rattle.value.specs.Values.{whole}

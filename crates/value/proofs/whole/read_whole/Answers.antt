@@ -1,10 +1,10 @@
-use Rattle.std.proofs.Common.{◌≡◌, ℕ, true, false, ◌&&◌, Ok, Err, sym, ap, ◌∙◌, arith, w64, SFits, rules}
+use Rattle.std.proofs.Common.{◌≡◌, ℕ, true, Ok, Err, sym, ap, ◌∙◌, arith, w64, SFits, rules}
 use lib.Signed.{le_z}
 use Rattle.std.proofs.lemmas.Int.{to_z-of_z, ints}
 use Rattle.std.proofs.lemmas.Bool.{and_from, and_left, and_right, cond-true, cond-false}
 use Rattle.protocol.specs.Held.{text_bytes}
 use Rattle.value.specs.Whole.{begins, whole_of, between}
-use Rattle.value.proofs.Wholes.{reads_whole, reads_none}
+use Rattle.value.proofs.Wholes.{reads_whole}
 use Rattle.value.proofs.whole.read_whole.Goals as goal
 use Rattle.value.proofs.whole.read_whole.Goals.{In-Ok, Then-n-most, Else-n-most, Else-least-n}
 

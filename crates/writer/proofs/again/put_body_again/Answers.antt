@@ -9,5 +9,5 @@ use Rattle.writer.proofs.again.put_body_again.Goals as goal
 
 pub returns-in-DiscoveryRequest : goal.returns-in-DiscoveryRequest
 returns-in-DiscoveryRequest c k =
-    subst (λ b. Puts c.args.row.now c.args.at (flat_map colon (content_fields (again_content (content_of b)))) c.put-field.new.row c.put-field.result) (sym c.in-DiscoveryRequest.is)
-    (puts_fields (codes "2") (codes "3" ∷ []) c.put-field-at.ensures (puts_lone (codes "3") c.put-field.ensures))
+    subst (λ b. Puts c.args.row.now c.args.at (flat_map colon (content_fields (again_content (content_of b)))) c.put_field.new.row c.put_field.result) (sym c.in-DiscoveryRequest.is)
+    (puts_fields (codes "2") (codes "3" ∷ []) c.put_field-at.ensures (puts_lone (codes "3") c.put_field.ensures))

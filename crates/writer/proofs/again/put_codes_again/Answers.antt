@@ -12,9 +12,9 @@ loop-code-preserved c =
     let told = c.in-Some.ensures in
     let x = c.in-Some.code in
     left-more code_fields (codes_ahead c.loop-code.codes) (flat_map colon (flat_map code_fields (codes_ahead c.args.codes))) c.loop-code.invariant
-    (codes_ahead c.next-code.new.self) x told.value told.after
-    (puts_lone (decimal (code_number x)) (puts_as _ _ (ap (λ n. colon (decimal n)) c.number.ensures) c.put-number-at.ensures.puts))
+    (codes_ahead c.next_code.new.self) x told.value told.after
+    (puts_lone (decimal (code_number x)) (puts_as _ _ (ap (λ n. colon (decimal n)) c.number.ensures) c.put_number-at.ensures.puts))
 
 pub returns : goal.returns
 returns c =
-    left-none code_fields (codes_ahead c.loop-code.codes) (flat_map colon (flat_map code_fields (codes_ahead c.args.codes))) c.loop-code.invariant c.in-default.ensures.value
+    left-none code_fields (codes_ahead c.loop-code.codes) (flat_map colon (flat_map code_fields (codes_ahead c.args.codes))) c.loop-code.invariant c.in_default.ensures.value

@@ -10,9 +10,9 @@ pub loop-index-preserved : goal.loop-index-preserved
 loop-index-preserved c =
     let told = c.in-Some.ensures in
     left-more index_fields (indices_ahead c.loop-index.indices) (flat_map colon (flat_map index_fields (indices_ahead c.args.indices))) c.loop-index.invariant
-    (indices_ahead c.next-index.new.self) c.in-Some.index told.value told.after
-    (puts_lone (decimal c.in-Some.index) c.put-number-at.ensures.puts)
+    (indices_ahead c.next_index.new.self) c.in-Some.index told.value told.after
+    (puts_lone (decimal c.in-Some.index) c.put_number-at.ensures.puts)
 
 pub returns : goal.returns
 returns c =
-    left-none index_fields (indices_ahead c.loop-index.indices) (flat_map colon (flat_map index_fields (indices_ahead c.args.indices))) c.loop-index.invariant c.in-default.ensures.value
+    left-none index_fields (indices_ahead c.loop-index.indices) (flat_map colon (flat_map index_fields (indices_ahead c.args.indices))) c.loop-index.invariant c.in_default.ensures.value

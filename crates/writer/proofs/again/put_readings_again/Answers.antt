@@ -12,17 +12,17 @@ pub loop-reading-preserved : goal.loop-reading-preserved
 loop-reading-preserved c k =
     let told = c.in-Some.ensures in
     let xs = readings_ahead c.loop-reading.readings in
-    let ys = readings_ahead c.next-reading.new.self in
+    let ys = readings_ahead c.next_reading.new.self in
     let x = readout_of c.in-Some.reading in
     let inv = c.loop-reading.invariant k in
     let kept = subst (All KeptReadout) (first_is xs ys x told.value told.after) inv.0 in (
       kept.1,
       left-more (λ x. readout_fields (again_readout x)) xs (flat_map colon (flat_map (λ x. readout_fields (again_readout x)) (readings_ahead c.args.readings))) inv.1
-          ys x told.value told.after (c.put-reading-again-at.ensures kept.0),
+          ys x told.value told.after (c.put_reading_again-at.ensures kept.0),
     )
 
 pub returns : goal.returns
 returns c k =
     let all = readings_ahead c.args.readings in
     puts_as _ _ (ap (flat_map colon) (sym (joined_map readout_fields again_readout all)))
-    (left-none (λ x. readout_fields (again_readout x)) (readings_ahead c.loop-reading.readings) (flat_map colon (flat_map (λ x. readout_fields (again_readout x)) all)) (c.loop-reading.invariant k).1 c.in-default.ensures.value)
+    (left-none (λ x. readout_fields (again_readout x)) (readings_ahead c.loop-reading.readings) (flat_map colon (flat_map (λ x. readout_fields (again_readout x)) all)) (c.loop-reading.invariant k).1 c.in_default.ensures.value)

@@ -11,9 +11,9 @@ loop-write-preserved c =
     let told = c.in-Some.ensures in
     let w = write_of c.in-Some.write in
     left-more write_fields (writes_ahead c.loop-write.writes) (flat_map colon (flat_map write_fields (writes_ahead c.args.writes))) c.loop-write.invariant
-    (writes_ahead c.next-write.new.self) w told.value told.after
-    (puts_fields (decimal w.0) (w.1 ∷ []) c.put-number-at.ensures.puts (puts_lone w.1 (puts_as _ _ (ap colon c.as-bytes.ensures.value) c.put-field-at.ensures)))
+    (writes_ahead c.next_write.new.self) w told.value told.after
+    (puts_fields (decimal w.0) (w.1 ∷ []) c.put_number-at.ensures.puts (puts_lone w.1 (puts_as _ _ (ap colon c.as_bytes.ensures.value) c.put_field-at.ensures)))
 
 pub returns : goal.returns
 returns c =
-    left-none write_fields (writes_ahead c.loop-write.writes) (flat_map colon (flat_map write_fields (writes_ahead c.args.writes))) c.loop-write.invariant c.in-default.ensures.value
+    left-none write_fields (writes_ahead c.loop-write.writes) (flat_map colon (flat_map write_fields (writes_ahead c.args.writes))) c.loop-write.invariant c.in_default.ensures.value

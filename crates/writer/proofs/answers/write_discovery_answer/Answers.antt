@@ -14,8 +14,8 @@ returns c =
     let x = c.args.identifier in
     let y = c.args.security in
     let n = c.args.number in
-    let ok = and_from (told x) (told y) (sym c.if-not-is-told.ensures) (sym c.if-not-is-told-2.ensures) in
-    let good = good_discovered n x y c.ranges.number.fits c.put-reading-at.ensures.reads c.put-reading-at-2.ensures.reads ok in
-    let payload = puts_both readout_fields (readout_of x) (readout_of y) c.put-reading-at.ensures.puts c.put-reading-at-2.ensures.puts in
-    let e = ended (told x && told y) (answered V11 n (discovery_answer (readout_of x ∷ readout_of y ∷ []))) c.args.row.now good c.if-row-lt512.false (sym ok) c.put-head-at.ensures payload c.put-bytes.ensures in
+    let ok = and_from (told x) (told y) (sym c.if-not-is_told.ensures) (sym c.if-not-is_told-2.ensures) in
+    let good = good_discovered n x y c.ranges.number.fits c.put_reading-at.ensures.reads c.put_reading-at-2.ensures.reads ok in
+    let payload = puts_both readout_fields (readout_of x) (readout_of y) c.put_reading-at.ensures.puts c.put_reading-at-2.ensures.puts in
+    let e = ended (told x && told y) (answered V11 n (discovery_answer (readout_of x ∷ readout_of y ∷ []))) c.args.row.now good c.if-row-lt512.false (sym ok) c.put_head-at.ensures payload c.put_bytes.ensures in
     record { told = e.told; row = e.row; back = e.back }

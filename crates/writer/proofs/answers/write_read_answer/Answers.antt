@@ -10,7 +10,7 @@ returns c =
     let xs = c.args.readings.now in
     let n = c.args.number in
     let version = c.args.version in
-    let ok = c.if-not-readings-allowed.ensures in
-    let good = good_readings version n xs c.ranges.number.fits c.put-readings-at.ensures.reads (sym ok) in
-    let e = ended (readings_allowed xs) (answered version n (read_answer (map readout_of xs))) c.args.row.now good c.if-row-lt512.false ok c.put-head-at.ensures c.put-readings-at.ensures.puts c.put-bytes.ensures in
+    let ok = c.if-not-readings_allowed.ensures in
+    let good = good_readings version n xs c.ranges.number.fits c.put_readings-at.ensures.reads (sym ok) in
+    let e = ended (readings_allowed xs) (answered version n (read_answer (map readout_of xs))) c.args.row.now good c.if-row-lt512.false ok c.put_head-at.ensures c.put_readings-at.ensures.puts c.put_bytes.ensures in
     record { told = e.told; row = e.row; back = e.back }

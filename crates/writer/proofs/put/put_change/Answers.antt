@@ -8,6 +8,6 @@ pub returns : goal.returns
 returns c =
     let w = change_of c.args.change.now in
     record {
-      puts = puts_fields (decimal w.0) (w.1 ∷ []) c.put-number-at.ensures.puts (puts_lone w.1 (puts_as _ _ (ap colon c.bytes.ensures) c.put-field.ensures));
-      small = c.put-number-at.ensures.small;
+      puts = puts_fields (decimal w.0) (w.1 ∷ []) c.put_number-at.ensures.puts (puts_lone w.1 (puts_as _ _ (ap colon c.bytes.ensures) c.put_field.ensures));
+      small = c.put_number-at.ensures.small;
     }

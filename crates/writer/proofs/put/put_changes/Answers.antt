@@ -14,8 +14,8 @@ loop-change-preserved c =
     let x = c.change-item.result in
     let xs = c.args.changes.now in
     let i = c.loop-change.change-index in (
-      puts-more (λ x. write_fields (change_of x)) xs i c.loop-change.invariant.0 x x (omega arith) c.change-item.is c.put-change-at.ensures.puts,
-      all_more (λ x. (change_of x).0 < 65536) xs i x (omega arith) c.change-item.is c.loop-change.invariant.1 c.put-change-at.ensures.small,
+      puts-more (λ x. write_fields (change_of x)) xs i c.loop-change.invariant.0 x x (omega arith) c.change-item.is c.put_change-at.ensures.puts,
+      all_more (λ x. (change_of x).0 < 65536) xs i x (omega arith) c.change-item.is c.loop-change.invariant.1 c.put_change-at.ensures.small,
     )
 
 pub returns : goal.returns

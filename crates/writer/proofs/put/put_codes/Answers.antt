@@ -12,7 +12,7 @@ pub loop-code-preserved : goal.loop-code-preserved
 loop-code-preserved c =
     let x = get_or c.args.codes.now c.loop-code.code-index C.Done in
     puts-more code_fields c.args.codes.now c.loop-code.code-index c.loop-code.invariant x C.Done (omega arith) refl
-    (puts_lone (decimal (code_number x)) (puts_as _ _ (ap (λ n. colon (decimal n)) c.number.ensures) c.put-number-at.ensures.puts))
+    (puts_lone (decimal (code_number x)) (puts_as _ _ (ap (λ n. colon (decimal n)) c.number.ensures) c.put_number-at.ensures.puts))
 
 pub returns : goal.returns
 returns c = puts-all code_fields c.args.codes.now c.loop-code.code-index c.loop-code.invariant (omega arith)

@@ -14,8 +14,8 @@ loop-reading-preserved c =
     let x = c.reading-item.result in
     let xs = c.args.readings.now in
     let i = c.loop-reading.reading-index in (
-      puts-more (λ x. readout_fields (readout_of x)) xs i c.loop-reading.invariant.0 x x (omega arith) c.reading-item.is c.put-reading-at.ensures.puts,
-      all_more (λ x. Readable (readout_of x)) xs i x (omega arith) c.reading-item.is c.loop-reading.invariant.1 c.put-reading-at.ensures.reads,
+      puts-more (λ x. readout_fields (readout_of x)) xs i c.loop-reading.invariant.0 x x (omega arith) c.reading-item.is c.put_reading-at.ensures.puts,
+      all_more (λ x. Readable (readout_of x)) xs i x (omega arith) c.reading-item.is c.loop-reading.invariant.1 c.put_reading-at.ensures.reads,
     )
 
 pub returns : goal.returns

@@ -6,4 +6,4 @@ pub returns : goal.returns
 returns c =
     let word = c.args.word.now in
     let text = c.args.text.now in
-    puts_fields (decimal c.args.code) (word ∷ text ∷ []) c.put-number-at.ensures.puts (puts_fields word (text ∷ []) c.put-field-at.ensures (puts_lone text c.put-field.ensures))
+    puts_fields (decimal c.args.code) (word ∷ text ∷ []) c.put_number-at.ensures.puts (puts_fields word (text ∷ []) c.put_field-at.ensures (puts_lone text c.put_field.ensures))

@@ -8,6 +8,6 @@ use Rattle.writer.proofs.requests.write_discovery_request.Goals as goal
 
 pub returns : goal.returns
 returns c =
-    let payload = puts_fields (codes "2") (codes "3" ∷ []) c.put-field-at.ensures (puts_lone (codes "3") c.put-field-at-2.ensures) in
-    let e = ended true (asked 0 discovery_request) c.args.row.now good_discovery c.if-row-lt512.false refl c.put-head-at.ensures payload c.put-bytes.ensures in
+    let payload = puts_fields (codes "2") (codes "3" ∷ []) c.put_field-at.ensures (puts_lone (codes "3") c.put_field-at-2.ensures) in
+    let e = ended true (asked 0 discovery_request) c.args.row.now good_discovery c.if-row-lt512.false refl c.put_head-at.ensures payload c.put_bytes.ensures in
     record { told = e.told; row = e.row; back = e.back }

@@ -9,7 +9,7 @@ pub returns : goal.returns
 returns c =
     let cs = c.args.changes.now in
     let n = c.args.number in
-    let ok = c.if-not-changes-allowed.ensures in
-    let good = good_changes n cs c.ranges.number.fits c.put-changes-at.ensures.small (sym ok) in
-    let e = ended (changes_allowed cs) (asked n (write_request (map change_of cs))) c.args.row.now good c.if-row-lt512.false ok c.put-head-at.ensures c.put-changes-at.ensures.puts c.put-bytes.ensures in
+    let ok = c.if-not-changes_allowed.ensures in
+    let good = good_changes n cs c.ranges.number.fits c.put_changes-at.ensures.small (sym ok) in
+    let e = ended (changes_allowed cs) (asked n (write_request (map change_of cs))) c.args.row.now good c.if-row-lt512.false ok c.put_head-at.ensures c.put_changes-at.ensures.puts c.put_bytes.ensures in
     record { told = e.told; row = e.row; back = e.back }

@@ -11,8 +11,8 @@ returns-in-ok-push c =
     let us = vec_items c.args.unused.now in
     let line = c.args.line.now in
     let star = c.in-Ok.star in
-    let skip = sym c.is-skipped.ensures ∙ c.if-is-skipped.false in
-    let told = c.in-Ok.ensures ∙ ap (λ xs. judged (map row xs) line) c.as-slice.ensures.value in
+    let skip = sym c.is_skipped.ensures ∙ c.if-is_skipped.false in
+    let told = c.in-Ok.ensures ∙ ap (λ xs. judged (map row xs) line) c.as_slice.ensures.value in
     record {
       rows = ap (map row) c.in-ok-push.ensures.items ∙ map-append row (vec_items self.stars) (star ∷ []) ∙ line_rows (rows_of self) line (Ok (row star)) skip told;
       unused = sym (append-nil us) ∙ ap (λ xs. us ++ xs) (line_unused c.args.number (rows_of self) line (Ok (row star)) skip told);

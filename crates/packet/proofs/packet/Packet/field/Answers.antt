@@ -7,15 +7,15 @@ use Rattle.packet.proofs.packet.Packet.field.Goals as goal
 pub loop-i-preserved : goal.loop-i-preserved
 loop-i-preserved c =
     let inv = c.loop-i.invariant in (
-      c.next-field.ensures.after ∙ ap (drop 1) inv.0 ∙ drop-drop 1 c.loop-i.-i (fields_left c.args.self.now.fields),
-      λ packet h. c.next-field.ensures.onward packet (inv.1 packet h),
+      c.next_field.ensures.after ∙ ap (drop 1) inv.0 ∙ drop-drop 1 c.loop-i._i (fields_left c.args.self.now.fields),
+      λ packet h. c.next_field.ensures.onward packet (inv.1 packet h),
     )
 
 pub returns : goal.returns
 returns c =
     let inv = c.loop-i.invariant in
-    let k : c.loop-i.-i ≡ c.args.k = omega arith in
+    let k : c.loop-i._i ≡ c.args.k = omega arith in
     record {
-      field = c.next-field-2.ensures.field ∙ ap first inv.0 ∙ ap (λ n. first (drop n (fields_left c.args.self.now.fields))) k;
-      place = λ packet h. c.next-field-2.ensures.place packet (inv.1 packet h);
+      field = c.next_field-2.ensures.field ∙ ap first inv.0 ∙ ap (λ n. first (drop n (fields_left c.args.self.now.fields))) k;
+      place = λ packet h. c.next_field-2.ensures.place packet (inv.1 packet h);
     }

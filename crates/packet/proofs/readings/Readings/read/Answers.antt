@@ -21,7 +21,7 @@ returns-then-count-most c =
 pub loop-rest-preserved : goal.loop-rest-preserved
 loop-rest-preserved c =
     let told = c.in-Ok.ensures in
-    (omega arith, passed-more 3 reading_group c.loop-rest.count (fields (part_bytes c.args.payload)) (fields_left c.loop-rest.rest) c.loop-rest.invariant.1 _ (fields_left c.read-reading.new.fields) told.group told.after)
+    (omega arith, passed-more 3 reading_group c.loop-rest.count (fields (part_bytes c.args.payload)) (fields_left c.loop-rest.rest) c.loop-rest.invariant.1 _ (fields_left c.read_reading.new.fields) told.group told.after)
 
 pub returns-in-Err : goal.returns-in-Err
 returns-in-Err c =

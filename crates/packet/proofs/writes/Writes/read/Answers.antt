@@ -2,7 +2,7 @@ use Rattle.std.proofs.Common.{sym, refl, subst, arith}
 use Rattle.field.specs.Fields.{fields}
 use Rattle.field.specs.Parts.{part_bytes, fields_left}
 use Rattle.field.proofs.Splits.{fields_some}
-use Rattle.packet.specs.Groups.{write_group, groups}
+use Rattle.packet.specs.Groups.{write_group}
 use Rattle.packet.proofs.Ahead.{Passed, passed-more, passed_over, passed-broken, passed-all, passed_some}
 use Rattle.packet.proofs.writes.Writes.read.Goals as goal
 
@@ -20,7 +20,7 @@ returns-then-count-eq10 c =
 pub loop-rest-preserved : goal.loop-rest-preserved
 loop-rest-preserved c =
     let told = c.in-Ok.ensures in
-    (omega arith, passed-more 2 write_group c.loop-rest.count (fields (part_bytes c.args.payload)) (fields_left c.loop-rest.rest) c.loop-rest.invariant.1 _ (fields_left c.read-write.new.fields) told.group told.after)
+    (omega arith, passed-more 2 write_group c.loop-rest.count (fields (part_bytes c.args.payload)) (fields_left c.loop-rest.rest) c.loop-rest.invariant.1 _ (fields_left c.read_write.new.fields) told.group told.after)
 
 pub returns-in-Err : goal.returns-in-Err
 returns-in-Err c =

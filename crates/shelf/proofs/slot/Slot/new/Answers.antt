@@ -3,7 +3,7 @@ use Rattle.value.specs.Meant.{datum_of}
 use Rattle.value.specs.Values.{Valid}
 use Rattle.shelf.proofs.slot.Slot.new.Goals as goal
 
-pub invariant-of-result : goal.invariant-of-result
-invariant-of-result c =
+pub invariant_of-result : goal.invariant_of-result
+invariant_of-result c =
     let told = c.kind-kind.ensures in
     (told.value, (∣ subst (λ k. Valid k (datum_of c.args.value)) (sym told.value) told.valid ∣₁, tt))

@@ -7,8 +7,8 @@ use Rattle.shelf.specs.Places.{Place}
 use Rattle.shelf.specs.Rows.{row_written}
 use Rattle.shelf.proofs.stored.ShelfStore.write.Goals as goal
 
-pub invariant-of-self : goal.invariant-of-self
-invariant-of-self c =
+pub invariant_of-self : goal.invariant_of-self
+invariant_of-self c =
     let s = c.args.self.now in
     let p : Place (vec_items s.slots) c.args.index c.in-Some.k = search rules in
     (s.narrow, ((row_written s.low s.high (vec_items s.slots) c.in-Some.k c.args.index c.new.result (typed c.args.value) s.rule p c.new.ensures).rule, tt))

@@ -1,7 +1,7 @@
 -- A search for the first that passes, at its place i: found, passed on, and at the end.
 use Rattle.std.proofs.Common.{◌≡◌, ℕ, suc, ◌+◌, ◌<◌, Bool, true, false, cond, List, [], ◌∷◌, length, get_or, drop, arith}
 use Rattle.std.proofs.lemmas.List.{at_drop_more, at_drop_all}
-use Rattle.slab.specs.Searches.{first_by}
+use Rattle.slab_rows.specs.Searches.{first_by}
 
 pub first_here : {X : Type 0} (p : X → Bool) (xs : List X) (i : ℕ) (d : X) → i < length xs → i + first_by p (drop i xs) ≡ first_by p xs → p (get_or xs i d) ≡ true → i ≡ first_by p xs
 first_here p xs i d h inv t =

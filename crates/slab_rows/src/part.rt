@@ -1,6 +1,6 @@
 //! Handing out the part of the memory at a place.
 ghost use Rattle.std.specs.Prelude.{◌≡◌};
-ghost use Rattle.slab.specs.Places.{told, piece, part_of};
+ghost use Rattle.slab_rows.specs.Places.{told, piece, part_of};
 
 use crate::place::Place;
 use protocol::refusal::Refusal;

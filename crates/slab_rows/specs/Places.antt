@@ -3,8 +3,8 @@
 use Rattle.std.specs.Prelude.{ℕ, ◌+◌, cond, List, length, take, drop, Ok, Err, Result, nat_le}
 use Rattle.protocol.specs.declared.refusal.Refusal.{Refusal}
 use Rattle.protocol.specs.declared.refusal.Refusal.TheVariants.{Limit}
-use Rattle.slab.specs.declared.place.Place.{Place}
-use Rattle.slab.specs.declared.place.Place.TheVariants.{Slab, Reply}
+use Rattle.slab_rows.specs.declared.place.Place.{Place}
+use Rattle.slab_rows.specs.declared.place.Place.TheVariants.{Slab, Reply}
 
 -- what was handed out, with the bytes in the place of the reference to them
 abbrev pub told : {A B E : Type 0} → (A → B) → Result A E → Result B E
