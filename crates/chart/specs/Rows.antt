@@ -2,7 +2,7 @@
 --     judged rows line     the row of a line, or why it is not used, where these rows are used already
 --     charted rows lines   the rows that are used after these lines
 --     unused n rows lines  the rows that are not used, by their lines, the first of which has number n
-use Rattle.std.specs.Prelude.{ℕ, suc, Bool, true, false, cond, ◌||◌, List, [], ◌∷◌, ◌++◌, map, length, is_some, Some, None, Ok, Err, vec_items, Option, Result, ◌==◌, slice_index}
+use Rattle.std.specs.Prelude.{ℕ, suc, Bool, cond, ◌||◌, List, [], ◌∷◌, ◌++◌, map, length, is_some, Some, None, Ok, Err, vec_items, Option, Result, ◌==◌, slice_index}
 use Rattle.std.specs.Result.{result_map_both}
 use Rattle.std.specs.Str.{bytes_eq}
 use Rattle.sky.specs.Stars.{Row, row}

@@ -126,7 +126,7 @@ fn first_byte(word: &[u8]) -> Option<(u8, &[u8])>
 fn is_none(word: &[u8]) -> bool
     ensures { result ≡ bytes_eq word.now empty }
 {
-    word == b"\\e"
+    word == b"\\e".as_slice()
 }
 
 /// The bytes that a word stands for.

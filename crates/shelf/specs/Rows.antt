@@ -1,5 +1,5 @@
 -- Rows of elements that ascend: what a look-up finds, and what a write at a place leaves.
-use Rattle.std.specs.Prelude.{◌≡◌, ℕ, zero, suc, ◌^◌, ◌<◌, ◌≤◌, Bool, true, false, cond, ◌&&◌, List, [], ◌∷◌, map, length, set, Some, None, Option, ◌==◌, ◌≢◌, nat_eq, nat_le, slice_index_or, slice_set, refl}
+use Rattle.std.specs.Prelude.{◌≡◌, ℕ, zero, suc, ◌^◌, ◌<◌, ◌≤◌, true, false, ◌&&◌, List, [], ◌∷◌, map, length, set, Some, None, ◌==◌, ◌≢◌, nat_eq, nat_le, slice_index_or, slice_set, refl}
 use Rattle.std.proofs.Common.{sym, ap, ap₂, ◌∙◌, arith}
 use Rattle.std.proofs.Math.Path.{fun_ext}
 use Rattle.std.proofs.Math.Logic.{∥∥₁_elim}
@@ -7,8 +7,7 @@ use Rattle.std.specs.Map.{update}
 use Rattle.std.proofs.lemmas.List.{length-set, length-map, get_or-map, map-set}
 use Rattle.std.proofs.lemmas.Bool.{and_parts, leb-true, ne_eqb, cond-false}
 use Rattle.std.proofs.lemmas.Bool.Decides.{nat_tests}
-use Rattle.value.specs.Values.{Valid}
-use Rattle.store.specs.Contents.{Element, Contents, Typed, ValidIn, Sound, free, inside, put}
+use Rattle.store.specs.Contents.{Typed, ValidIn, Sound, free, put}
 use Rattle.store.specs.Houses.{valid_more}
 use Rattle.shelf.specs.Entries.{Entry, entry_of, lookup, ascending, counted, shelved, shelf_of}
 use Rattle.shelf.specs.Places.{Place}

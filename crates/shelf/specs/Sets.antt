@@ -2,7 +2,6 @@
 use Rattle.std.specs.Prelude.{◌≡◌, ℕ, Bool, ◌⊎◌, List, ℤ, Some, None, Option, refl}
 use Rattle.std.proofs.Common.{sym, ap, ◌∙◌, inl, inr}
 use base.Stored.{Coded, Coded-set, coded_unit, coded_ℕ, coded_bool, coded_ℤ, coded×, coded⊎, coded_list, coded_via}
-use Rattle.decimal.specs.declared.real.Real.{Real}
 use Rattle.protocol.specs.declared.kind.Kind.{Kind}
 use Rattle.value.specs.Values.{Datum, truth, whole, real, words, value_read, spelled, Valid}
 

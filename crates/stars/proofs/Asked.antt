@@ -7,7 +7,7 @@ use Rattle.protocol.specs.declared.kind.Kind.{Kind}
 use Rattle.protocol.specs.declared.kind.Kind.TheVariants as K
 use Rattle.sky.specs.Stars.{Row, row}
 use Rattle.sky.specs.declared.star.Star.{Star}
-use Rattle.store.specs.Contents.{Element, Typed, fixed, inside, kind_at, found, read_of, kept, write_of}
+use Rattle.store.specs.Contents.{Typed, fixed, inside, kind_at, found, read_of, kept, write_of}
 use Rattle.store.specs.Writings.{read_inside, write_barred}
 use Rattle.stars.specs.Facts.{stars_of}
 use Rattle.stars.specs.Parts.{part_of}

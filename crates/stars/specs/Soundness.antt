@@ -1,15 +1,13 @@
 -- Star rows are sound.
-use Rattle.std.specs.Prelude.{◌≡◌, ℕ, zero, suc, ◌+◌, ◌*◌, ◌^◌, ◌<◌, ◌≤◌, Bool, true, false, cond, List, [], ◌∷◌, map, length, ℤ, pos, negsuc, ◌≤ℤ◌, Some, None, Option, FitsSigned, nat_le}
+use Rattle.std.specs.Prelude.{ℕ, zero, suc, ◌≤◌, Bool, true, false, cond, List, [], ◌∷◌, map, length, ℤ, pos, negsuc, ◌≤ℤ◌, Some, None, Option, FitsSigned, nat_le}
 use Rattle.std.proofs.Common.{arith, rules}
 use Rattle.std.specs.Int.{w32}
 use Rattle.std.proofs.lemmas.List.{length-map}
 use Rattle.std.proofs.lemmas.Int.{ints}
 use Rattle.std.specs.List.{slice_get}
-use Rattle.protocol.specs.declared.kind.Kind.TheVariants as K
-use Rattle.value.specs.Values.{Valid, whole}
 use Rattle.value.specs.declared.value.Value.TheVariants as V
 use Rattle.value.proofs.Readings.{value_valid}
-use Rattle.sky.specs.Stars.{Row, row}
+use Rattle.sky.specs.Stars.{row}
 use Rattle.sky.specs.declared.star.Star.{Star}
 use Rattle.store.specs.Contents.{Element, ValidIn, Sound}
 use Rattle.stars.specs.Facts.{name_of, ascension_of, declination_of, facts, stars_of}

@@ -36,7 +36,6 @@ use Rattle.protocol.proofs.PlainText.{few}
 use Rattle.value.specs.Values.{Datum, value_read}
 use Rattle.value.proofs.Readings.{read_textual}
 use Rattle.packet.specs.Groups.{index_group, write_group, code_group, reading_group, Readout, found, lacking, groups, KeptWrite, KeptReadout}
-use Rattle.writer.specs.Orders.{told}
 
 pub record Good (m : Message) : Type 0 where
   pub number : m.number < 65536

@@ -27,6 +27,6 @@ by_test false reply row n t r =
 pub returns : goal.returns
 returns c =
     let reply = c.args.reply.now in
-    let e : ◌≡◌ {A = Discovering} (record { answer = Ok (Reply c.in-ok-length.length); reply = c.write-discovery-request.new.row }) (discovering reply) =
-    by_test (ltb (length reply) 512) reply c.write-discovery-request.new.row c.in-ok-length.length (sym c.in-ok-length.was ∙ c.write-discovery-request.ensures.told) c.write-discovery-request.ensures.row in
+    let e : ◌≡◌ {A = Discovering} (record { answer = Ok (Reply c.in_ok-length.length); reply = c.write_discovery_request.new.row }) (discovering reply) =
+    by_test (ltb (length reply) 512) reply c.write_discovery_request.new.row c.in_ok-length.length (sym c.in_ok-length.was ∙ c.write_discovery_request.ensures.told) c.write_discovery_request.ensures.row in
     record { answer = ap (λ x. x.answer) e; reply = ap (λ x. x.reply) e }

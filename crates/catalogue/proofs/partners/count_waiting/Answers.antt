@@ -10,9 +10,9 @@ loop-partner-preserved c =
     let ps = c.args.partners.now in
     let i = c.loop-partner.partner-index in
     let e : waiting_in (drop i ps) ≡ cond (is_some (get_or ps i (newcomer 0)).waiting) 1 0 + waiting_in (drop (i + 1) ps) = at_drop_more waiting_in ps i (newcomer 0) c.loop-partner-test.true in
-    elim c.if-is-some.branch [
-      | then-is-some w ↦ let t : ◌≡◌ {A = ℕ} (cond (is_some (get_or ps i (newcomer 0)).waiting) 1 0) 1 = cond-true _ 1 0 (sym w.if-is-some.ensures) in (omega (arith, w.count-is), omega (arith, w.count-is))
-      | else-is-some w ↦ let t : ◌≡◌ {A = ℕ} (cond (is_some (get_or ps i (newcomer 0)).waiting) 1 0) 0 = cond-false _ 1 0 (sym w.if-is-some.ensures) in (omega (arith, w.count-is), omega (arith, w.count-is))
+    elim c.if-is_some.branch [
+      | then-is-some w ↦ let t : ◌≡◌ {A = ℕ} (cond (is_some (get_or ps i (newcomer 0)).waiting) 1 0) 1 = cond-true _ 1 0 (sym w.if-is_some.ensures) in (omega (arith, w.count-is), omega (arith, w.count-is))
+      | else-is-some w ↦ let t : ◌≡◌ {A = ℕ} (cond (is_some (get_or ps i (newcomer 0)).waiting) 1 0) 0 = cond-false _ 1 0 (sym w.if-is_some.ensures) in (omega (arith, w.count-is), omega (arith, w.count-is))
     ]
 
 pub returns : goal.returns

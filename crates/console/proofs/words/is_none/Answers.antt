@@ -1,7 +1,12 @@
+use Rattle.std.proofs.Common.{ap, ◌∙◌}
+use Rattle.std.specs.Str.{bytes_eq}
 use Rattle.std.proofs.lemmas.Slice.Eq.{slice_eq-Decides}
+use Rattle.std.proofs.lemmas.Bool.Decides.{Decides-eqb}
 use Rattle.console.proofs.Notes.{same}
 use Rattle.console.proofs.words.is_none.Goals as goal
-use Rattle.std.proofs.lemmas.Bool.Decides.{Decides-eqb}
 
 pub returns : goal.returns
-returns c = same _ _ _ (slice_eq-Decides Decides-eqb _ _ _ c.eq.ensures)
+returns c =
+    let word = c.args.word.now in
+    let none = c.as_slice.result.now in
+    same word none c.eq.result (slice_eq-Decides Decides-eqb word none c.eq.result c.eq.ensures) ∙ ap (bytes_eq word) c.as_slice.ensures

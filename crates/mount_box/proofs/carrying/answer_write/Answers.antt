@@ -5,11 +5,11 @@ use Rattle.mount_box.proofs.carrying.answer_write.Goals as goal
 
 pub returns : goal.returns
 returns g c =
-    let cs = take c.write-all-count.result c.write-all-count.new.codes in
-    let wrote = c.write-write-answer.ensures in
+    let cs = take c.write_all-count.result c.write_all-count.new.codes in
+    let wrote = c.write_write_answer.ensures in
     record {
       answer =
-          write-answers (g.S.Store.meaning c.args.store.now) c.args.version c.args.number c.write-write-answer.result c.args.row.now c.write-write-answer.new.row c.requires.room
-          cs (writes_ahead c.args.writes) c.write-all-count.ensures.codes c.requires.groups wrote.told wrote.row;
-      after = c.write-all-count.ensures.after;
+          write-answers (g.S.Store.meaning c.args.store.now) c.args.version c.args.number c.write_write_answer.result c.args.row.now c.write_write_answer.new.row c.requires.room
+          cs (writes_ahead c.args.writes) c.write_all-count.ensures.codes c.requires.groups wrote.told wrote.row;
+      after = c.write_all-count.ensures.after;
     }

@@ -6,7 +6,7 @@ use Rattle.mount_box.proofs.carrying.read_all.Goals as goal
 pub loop-index-preserved : goal.loop-index-preserved
 loop-index-preserved g c =
     let xs = indices_ahead c.loop-index.indices in
-    let ys = indices_ahead c.next-index.new.self in
+    let ys = indices_ahead c.next_index.new.self in
     let told = c.in-Some.ensures in
     let s = first_some xs ys c.in-Some.index told.value told.after in
     let n = ap length s in

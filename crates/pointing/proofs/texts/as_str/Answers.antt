@@ -5,6 +5,6 @@ use Rattle.pointing.proofs.texts.as_str.Goals as goal
 
 pub unreachable-requires : goal.unreachable-requires
 unreachable-requires c =
-    let bs = c.as-bytes.result.now in
-    let t = (and_parts (free bs) _ (and_parts (sized bs) _ c.as-bytes.ensures.plain).1).1 in
+    let bs = c.as_bytes.result.now in
+    let t = (and_parts (free bs) _ (and_parts (sized bs) _ c.as_bytes.ensures.plain).1).1 in
     c.in-Err.ensures.cases.0 ((utf8_decides bs).0 t)

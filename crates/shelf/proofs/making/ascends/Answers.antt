@@ -1,4 +1,4 @@
-use Rattle.std.proofs.Common.{◌≡◌, ◌⊎◌, sym, ◌∙◌}
+use Rattle.std.proofs.Common.{sym, ◌∙◌}
 use Rattle.shelf.proofs.Searches.{ascends_more, ascends_not, ascends_all}
 use Rattle.shelf.proofs.making.ascends.Goals as goal
 

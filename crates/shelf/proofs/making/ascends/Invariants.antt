@@ -1,4 +1,4 @@
-use Rattle.std.proofs.Common.{◌≡◌, ◌^◌, ◌≤◌, map, drop}
+use Rattle.std.proofs.Common.{◌≡◌, map, drop}
 use Rattle.shelf.specs.Entries.{entry_of, ascending}
 use Rattle.shelf.proofs.making.ascends.Given as goal
 

@@ -7,8 +7,8 @@ use Rattle.catalogue.proofs.Keeps.{kept_enlisted}
 use Rattle.catalogue.proofs.Listed.{listed, grown_at, enlisting_new}
 use Rattle.catalogue.proofs.catalogue.Catalogue.enlist.Goals as goal
 
-pub invariant-of-self : goal.invariant-of-self
-invariant-of-self c =
+pub invariant_of-self : goal.invariant_of-self
+invariant_of-self c =
     let s = c.args.self.now in
     (length-set s.partners s.enlisted (newcomer c.args.address) ∙ s.room, (omega arith, (subst Kept (sym (grown_at s c.args.address c.if-k-ge16.false)) (kept_enlisted (station_of s) c.args.address s.kept), tt)))
 

@@ -5,8 +5,8 @@ use Rattle.catalogue.proofs.Keeps.{ranged}
 use Rattle.catalogue.proofs.Tries.{doubles, sums, next_time, silent_more, silent_done}
 use Rattle.catalogue.proofs.catalogue.Catalogue.last_deadline.Goals as goal
 
-pub overflow-add-deadline-in-loop-repeats : goal.overflow-add-deadline-in-loop-repeats
-overflow-add-deadline-in-loop-repeats c =
+pub overflow_add-deadline-in-loop-repeats : goal.overflow_add-deadline-in-loop-repeats
+overflow_add-deadline-in-loop-repeats c =
     let t = (station_of c.args.self.now).timing in
     let r = ranged t c.args.self.now.kept.0.0 in
     let j = c.loop-repeats.repeats in

@@ -7,8 +7,8 @@ use Rattle.catalogue.proofs.Listed.{listed}
 use Rattle.catalogue.proofs.Keeps.{small, kept-opened}
 use Rattle.catalogue.proofs.catalogue.Catalogue.note.Goals as goal
 
-pub overflow-add-counts : goal.overflow-add-counts
-overflow-add-counts c =
+pub overflow_add-counts : goal.overflow_add-counts
+overflow_add-counts c =
     let s = c.args.self.now in
     let n = small (station_of s) s.kept (omega (arith, listed s)) in
     omega arith

@@ -21,16 +21,16 @@ use Rattle.catalogue.proofs.catalogue.Catalogue.open_write.Goals as goal
 fulfilled : (s : Station) (slab : List ℕ) (k time : ℕ) (xs : List Change) → length s.partners ≤ 16 → (o : Opening) → o ≡ opening s slab k time (changes_allowed xs) (write_request (map change_of xs)) → Opened s slab k o.answer o.after o.slab
 fulfilled s slab k time xs few o e = subst (λ (x : Opening). Opened s slab k x.answer x.after x.slab) (sym e) (opened-all s slab k time (changes_allowed xs) (write_request (map change_of xs)) few)
 
-pub returns-in-err-free : goal.returns-in-err-free
-returns-in-err-free c =
+pub returns-in_err-free : goal.returns-in_err-free
+returns-in_err-free c =
     let s = station_of c.args.self.now in
     let slab = c.args.slab.now in
     let xs = c.args.changes.now in
-    let p = err_from_is_err_and c.from-residual.result c.from-residual.ensures.1 in
-    let ground = c.in-err-free.field-0.0 in
-    let r : c.from-residual.result ≡ Err ground = p.1 ∙ ap Err p.2 in
-    let j : judged s (length slab) c.args.partner c.args.time (changes_allowed xs) ≡ Err ground = ap (λ b. judged s (length slab) c.args.partner c.args.time b) (sym c.changes-allowed-allowed.ensures) ∙ sym c.free-partner.ensures.answer ∙ c.in-err-free.was in
-    let e = opening-refused s slab c.args.partner c.args.time (changes_allowed xs) (write_request (map change_of xs)) c.from-residual.result ground r j in
+    let p = err_from_is_err_and c.from_residual.result c.from_residual.ensures.1 in
+    let ground = c.in_err-free.field-0.0 in
+    let r : c.from_residual.result ≡ Err ground = p.1 ∙ ap Err p.2 in
+    let j : judged s (length slab) c.args.partner c.args.time (changes_allowed xs) ≡ Err ground = ap (λ b. judged s (length slab) c.args.partner c.args.time b) (sym c.changes_allowed-allowed.ensures) ∙ sym c.free_partner.ensures.answer ∙ c.in_err-free.was in
+    let e = opening-refused s slab c.args.partner c.args.time (changes_allowed xs) (write_request (map change_of xs)) c.from_residual.result ground r j in
     let f = fulfilled s slab c.args.partner c.args.time xs (omega (arith, listed c.args.self.now)) _ e in
     record {
       answer = ap (λ x. x.answer) e;
@@ -42,15 +42,15 @@ returns-in-err-free c =
       back = subst (λ (x : Result Sent Refusal). Back (write_request (map change_of xs)) slab x) (sym r) tt;
     }
 
-pub returns-in-err-length : goal.returns-in-err-length
-returns-in-err-length c =
+pub returns-in_err-length : goal.returns-in_err-length
+returns-in_err-length c =
     let s = station_of c.args.self.now in
     let slab = c.args.slab.now in
     let xs = c.args.changes.now in
-    let p = c.in-ok-free.free in
-    let j : judged s (length slab) c.args.partner c.args.time (changes_allowed xs) ≡ Ok p = ap (λ b. judged s (length slab) c.args.partner c.args.time b) (sym c.changes-allowed-allowed.ensures) ∙ sym c.free-partner.ensures.answer ∙ c.in-ok-free.was in
-    let w = row_written s slab c.args.partner c.args.time (changes_allowed xs) (write_request (map change_of xs)) p j c.in-ok-free.ensures.free (omega (arith, listed c.args.self.now)) in
-    let t = sym c.in-err-length.was ∙ c.write-write-request.ensures.told ∙ ap (λ x. x.told) w in
+    let p = c.in_ok-free.free in
+    let j : judged s (length slab) c.args.partner c.args.time (changes_allowed xs) ≡ Ok p = ap (λ b. judged s (length slab) c.args.partner c.args.time b) (sym c.changes_allowed-allowed.ensures) ∙ sym c.free_partner.ensures.answer ∙ c.in_ok-free.was in
+    let w = row_written s slab c.args.partner c.args.time (changes_allowed xs) (write_request (map change_of xs)) p j c.in_ok-free.ensures.free (omega (arith, listed c.args.self.now)) in
+    let t = sym c.in_err-length.was ∙ c.write_write_request.ensures.told ∙ ap (λ x. x.told) w in
     let z : ◌≡◌ {A = ℕ} 0 1 = cc in
     absurd (omega arith)
 
@@ -59,13 +59,13 @@ returns c =
     let s = station_of c.args.self.now in
     let slab = c.args.slab.now in
     let xs = c.args.changes.now in
-    let p = c.in-ok-free.free in
-    let j : judged s (length slab) c.args.partner c.args.time (changes_allowed xs) ≡ Ok p = ap (λ b. judged s (length slab) c.args.partner c.args.time b) (sym c.changes-allowed-allowed.ensures) ∙ sym c.free-partner.ensures.answer ∙ c.in-ok-free.was in
+    let p = c.in_ok-free.free in
+    let j : judged s (length slab) c.args.partner c.args.time (changes_allowed xs) ≡ Ok p = ap (λ b. judged s (length slab) c.args.partner c.args.time b) (sym c.changes_allowed-allowed.ensures) ∙ sym c.free_partner.ensures.answer ∙ c.in_ok-free.was in
     let few : length s.partners ≤ 16 = omega (arith, listed c.args.self.now) in
-    let told = sym c.in-ok-length.was ∙ c.write-write-request.ensures.told in
-    let e = opening-noted s slab c.args.partner c.args.time (changes_allowed xs) (write_request (map change_of xs)) p j c.in-ok-free.ensures.free few
-    c.in-ok-length.length c.write-write-request.new.row c.note.result told c.write-write-request.ensures.row c.in-ok-length.ensures.back c.note.ensures.answer
-    (station_of c.note.new.self) (c.note.ensures.after ∙ ap (λ n. placed s c.args.partner (asked_by s.timing c.args.time Write n c.in-ok-length.length p) c.args.time (count_opened s.counts)) (sym (length-map xs change_of))) in
+    let told = sym c.in_ok-length.was ∙ c.write_write_request.ensures.told in
+    let e = opening-noted s slab c.args.partner c.args.time (changes_allowed xs) (write_request (map change_of xs)) p j c.in_ok-free.ensures.free few
+    c.in_ok-length.length c.write_write_request.new.row c.note.result told c.write_write_request.ensures.row c.in_ok-length.ensures.back c.note.ensures.answer
+    (station_of c.note.new.self) (c.note.ensures.after ∙ ap (λ n. placed s c.args.partner (asked_by s.timing c.args.time Write n c.in_ok-length.length p) c.args.time (count_opened s.counts)) (sym (length-map xs change_of))) in
     let f = fulfilled s slab c.args.partner c.args.time xs few _ e in
     record {
       answer = ap (λ x. x.answer) e;
@@ -74,6 +74,6 @@ returns c =
       counts = f.0;
       others = f.1;
       rest = f.2;
-      back = opening-back s slab c.args.partner c.args.time (changes_allowed xs) (write_request (map change_of xs)) p j c.in-ok-free.ensures.free few
-          c.in-ok-length.length c.write-write-request.new.row c.note.result told c.write-write-request.ensures.row c.in-ok-length.ensures.back c.note.ensures.answer;
+      back = opening-back s slab c.args.partner c.args.time (changes_allowed xs) (write_request (map change_of xs)) p j c.in_ok-free.ensures.free few
+          c.in_ok-length.length c.write_write_request.new.row c.note.result told c.write_write_request.ensures.row c.in_ok-length.ensures.back c.note.ensures.answer;
     }

@@ -9,11 +9,11 @@ use Rattle.catalogue.proofs.Listed.{listed}
 use Rattle.catalogue.proofs.Keeps.{small, kept-repeated, kept-settled, in-range, repeats-left}
 use Rattle.catalogue.proofs.catalogue.Catalogue.poll_due.Goals as goal
 
-pub is-spent-requires : goal.is-spent-requires
-is-spent-requires c = (in-range (station_of c.args.self.now) c.args.k c.args.time c.args.partner c.args.self.now.kept c.requires.0 c.args.waiting c.requires.1).0
+pub is_spent-requires : goal.is_spent-requires
+is_spent-requires c = (in-range (station_of c.args.self.now) c.args.k c.args.time c.args.partner c.args.self.now.kept c.requires.0 c.args.waiting c.requires.1).0
 
-pub overflow-add-counts : goal.overflow-add-counts
-overflow-add-counts c =
+pub overflow_add-counts : goal.overflow_add-counts
+overflow_add-counts c =
     let s = c.args.self.now in
     let n = small (station_of s) s.kept (omega (arith, listed s)) in
     omega arith
@@ -24,8 +24,8 @@ put-requires c =
     let k = kept-settled s c.args.k c.args.time c.args.partner c.args.self.now.kept c.requires.0 c.args.waiting c.requires.1 (count_failed s.counts) refl refl (omega arith) in
     (c.requires.0.known, subst (λ q. Kept (placed s c.args.k q c.args.time (count_failed s.counts))) (sym c.with.ensures) k)
 
-pub overflow-add-counts-2 : goal.overflow-add-counts-2
-overflow-add-counts-2 c =
+pub overflow_add-counts-2 : goal.overflow_add-counts-2
+overflow_add-counts-2 c =
     let s = c.args.self.now in
     let n = small (station_of s) s.kept (omega (arith, listed s)) in
     omega arith
@@ -33,23 +33,23 @@ overflow-add-counts-2 c =
 pub longer-requires : goal.longer-requires
 longer-requires c =
     let s = station_of c.args.self.now in
-    let left : spent s.timing c.args.waiting ≡ false = sym c.is-spent.ensures ∙ c.if-is-spent.false in
+    let left : spent s.timing c.args.waiting ≡ false = sym c.is_spent.ensures ∙ c.if-is_spent.false in
     let r = in-range s c.args.k c.args.time c.args.partner c.args.self.now.kept c.requires.0 c.args.waiting c.requires.1 in
     (r.0, (repeats-left s c.args.k c.args.time c.args.partner c.args.self.now.kept c.requires.0 c.args.waiting c.requires.1 left, c.requires.0.timely))
 
 pub put-requires-2 : goal.put-requires-2
 put-requires-2 c =
     let s = station_of c.args.self.now in
-    let left : spent s.timing c.args.waiting ≡ false = sym c.is-spent.ensures ∙ c.if-is-spent.false in
+    let left : spent s.timing c.args.waiting ≡ false = sym c.is_spent.ensures ∙ c.if-is_spent.false in
     let k = kept-repeated s c.args.k c.args.time c.args.partner c.args.self.now.kept c.requires.0 c.args.waiting c.requires.1 left in
     let q : c.with-again.result ≡ with_waiting c.args.partner (longer c.args.time c.args.waiting) = c.with-again.ensures ∙ ap (with_waiting c.args.partner) c.longer.ensures in
     (c.requires.0.known, subst (λ q. Kept (placed s c.args.k q c.args.time (count_repeated s.counts))) (sym q) k)
 
-pub returns-then-is-spent : goal.returns-then-is-spent
-returns-then-is-spent c =
+pub returns-then-is_spent : goal.returns-then-is_spent
+returns-then-is_spent c =
     let s = station_of c.args.self.now in
     let w = c.args.waiting in
-    let t : spent s.timing w ≡ true = sym c.is-spent.ensures ∙ c.if-is-spent.true in
+    let t : spent s.timing w ≡ true = sym c.is_spent.ensures ∙ c.if-is_spent.true in
     let e : given_up s c.args.k c.args.time w ≡ due s c.args.k c.args.time w = sym (cond-true (spent s.timing w) _ _ t) in
     record {
       answer = ap (λ x. x.answer) e;
@@ -60,7 +60,7 @@ pub returns : goal.returns
 returns c =
     let s = station_of c.args.self.now in
     let w = c.args.waiting in
-    let t : spent s.timing w ≡ false = sym c.is-spent.ensures ∙ c.if-is-spent.false in
+    let t : spent s.timing w ≡ false = sym c.is_spent.ensures ∙ c.if-is_spent.false in
     let e : sent_again s c.args.k c.args.time w ≡ due s c.args.k c.args.time w = sym (cond-false (spent s.timing w) _ _ t) in
     record {
       answer = ap (λ x. x.answer) e;

@@ -4,11 +4,11 @@ use Rattle.catalogue.specs.Kept.{Kept}
 use Rattle.catalogue.proofs.Listed.{listed, put_at}
 use Rattle.catalogue.proofs.catalogue.Catalogue.put.Goals as goal
 
-pub offset-bounds-self-k : goal.offset-bounds-self-k
-offset-bounds-self-k c = omega (arith, listed c.args.self.now)
+pub offset_bounds-self-k : goal.offset_bounds-self-k
+offset_bounds-self-k c = omega (arith, listed c.args.self.now)
 
-pub invariant-of-self : goal.invariant-of-self
-invariant-of-self c =
+pub invariant_of-self : goal.invariant_of-self
+invariant_of-self c =
     let s = c.args.self.now in
     (length-set s.partners c.args.k c.args.partner ∙ s.room, (s.within, (subst Kept (sym (put_at s c.args.k c.args.partner c.args.time c.args.counts c.requires.0)) c.requires.1, tt)))
 

@@ -8,8 +8,8 @@ use Rattle.catalogue.proofs.Keeps.{small, kept-settled}
 use Rattle.catalogue.proofs.Receipts.{known_found}
 use Rattle.catalogue.proofs.catalogue.Catalogue.withdraw.Goals as goal
 
-pub overflow-add-counts : goal.overflow-add-counts
-overflow-add-counts c =
+pub overflow_add-counts : goal.overflow_add-counts
+overflow_add-counts c =
     let s = c.args.self.now in
     let n = small (station_of s) s.kept (omega (arith, listed s)) in
     omega arith
@@ -17,8 +17,8 @@ overflow-add-counts c =
 pub put-requires : goal.put-requires
 put-requires c =
     let s = station_of c.args.self.now in
-    let p = c.in-ok-asking.asking in
+    let p = c.in_ok-asking.asking in
     let k = c.args.partner in
-    let f = known_found s k s.clock p c.args.self.now.kept.0.1 (sym c.known.ensures ∙ c.in-ok-asking.was) in
+    let f = known_found s k s.clock p c.args.self.now.kept.0.1 (sym c.known.ensures ∙ c.in_ok-asking.was) in
     let t = kept-settled s k s.clock p c.args.self.now.kept f c.in-Some.waiting c.in-Some.is (count_withdrawn s.counts) refl refl (omega arith) in
     (f.known, subst (λ q. Kept (placed s k q s.clock (count_withdrawn s.counts))) (sym c.with.ensures) t)

@@ -1,5 +1,5 @@
-use Rattle.std.proofs.Common.{◌<◌, length, drop, sym, ap, ◌∙◌, arith}
-use Rattle.std.proofs.lemmas.Bool.{eqb-true, eqb-false}
+use Rattle.std.proofs.Common.{drop, sym, ap, ◌∙◌}
+use Rattle.std.proofs.lemmas.Bool.{eqb-true}
 use Rattle.field.specs.Fields.{first}
 use Rattle.chart.specs.Lines.{lines_of}
 use Rattle.chart.proofs.Newlines.{no_lines, some_bytes}

@@ -14,12 +14,12 @@ returns-then-slab-lt8192 g c =
     let k = refused_so b c.args.sender c.args.packet.now (Err ShortMemory) ShortMemory refl e in
     record { handled = k.handled; repeat = k.repeat; groups = k.groups; others = k.others; back = k.back }
 
-pub returns-in-err-request : goal.returns-in-err-request
-returns-in-err-request g c =
+pub returns-in_err-request : goal.returns-in_err-request
+returns-in_err-request g c =
     let b = box_of g.S.Store.meaning c.args.self.now c.args.slab.now c.args.reply.now in
-    let p = err_from_is_err_and c.from-residual.result c.from-residual.ensures.1 in
-    let e : outcome c.from-residual.result b ≡ handled b c.args.sender c.args.packet.now = search rules in
-    let k = refused_so b c.args.sender c.args.packet.now c.from-residual.result p.0 p.1 e in
+    let p = err_from_is_err_and c.from_residual.result c.from_residual.ensures.1 in
+    let e : outcome c.from_residual.result b ≡ handled b c.args.sender c.args.packet.now = search rules in
+    let k = refused_so b c.args.sender c.args.packet.now c.from_residual.result p.0 p.1 e in
     record { handled = k.handled; repeat = k.repeat; groups = k.groups; others = k.others; back = k.back }
 
 pub returns : goal.returns
@@ -27,6 +27,6 @@ returns g c =
     let b = box_of g.S.Store.meaning c.args.self.now c.args.slab.now c.args.reply.now in
     let after = box_of g.S.Store.meaning c.respond.new.self c.respond.new.slab c.respond.new.reply in
     let told = c.respond.ensures in
-    let k = responded b c.args.sender c.args.packet.now (message_of c.in-ok-request.request) (outcome c.respond.result after)
-    (g.met.S.Store.sound c.args.self.now.store) c.if-slab-lt8192.false c.if-reply-lt512.false c.in-ok-request.ensures.read told.sixteen told.responded in
+    let k = responded b c.args.sender c.args.packet.now (message_of c.in_ok-request.request) (outcome c.respond.result after)
+    (g.met.S.Store.sound c.args.self.now.store) c.if-slab-lt8192.false c.if-reply-lt512.false c.in_ok-request.ensures.read told.sixteen told.responded in
     record { handled = k.handled; repeat = k.repeat; groups = k.groups; others = k.others; back = k.back }

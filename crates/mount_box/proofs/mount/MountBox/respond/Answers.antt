@@ -11,6 +11,6 @@ returns-in-ok-length g c =
     let told = c.in-ok-length.ensures in
     let d = ap content_of c.in-DiscoveryRequest.is in
     record {
-      responded = found_out b c.args.sender (message_of c.args.request) c.in-ok-length.length c.carry-out.new.row (g.S.Store.meaning c.carry-out.new.store) d told.answer told.after;
+      responded = found_out b c.args.sender (message_of c.args.request) c.in-ok-length.length c.carry_out.new.row (g.S.Store.meaning c.carry_out.new.store) d told.answer told.after;
       sixteen = λ o. absurd (subst Orders d o);
     }

@@ -4,17 +4,17 @@ use Rattle.field.specs.Fields.{first}
 use Rattle.notation.proofs.Spaces.{at-end, none-there, none_left}
 use Rattle.notation.proofs.words.Words.next_word.Goals as goal
 
-pub returns-then-is-empty : goal.returns-then-is-empty
-returns-then-is-empty c =
+pub returns-then-is_empty : goal.returns-then-is_empty
+returns-then-is_empty c =
     let line = c.args.self.now.rest.now in
-    let text = c.split-at.result.1.now in
-    let rest = c.split-at-2.result.1.now in
+    let text = c.split_at.result.1.now in
+    let rest = c.split_at-2.result.1.now in
     let m = c.spaces.result in
     let n = c.letters.result in
-    let f = c.split-at.ensures in
-    let g = c.split-at-2.ensures in
+    let f = c.split_at.ensures in
+    let g = c.split_at-2.ensures in
     let same = c.spaces.ensures.same in
-    let word_none = ap length (sym g.front) ∙ eqb-true _ _ (sym c.if-is-empty.ensures) in
+    let word_none = ap length (sym g.front) ∙ eqb-true _ _ (sym c.if-is_empty.ensures) in
     let none = at-end line text rest m n f.back g.back same c.spaces.ensures.stops c.letters.ensures.some c.letters.ensures.within word_none in
     let there = none-there line text rest m n f.back g.back same none in
     record {

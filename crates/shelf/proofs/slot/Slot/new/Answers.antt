@@ -6,4 +6,4 @@ use Rattle.shelf.proofs.slot.Slot.new.Goals as goal
 pub invariant_of-result : goal.invariant_of-result
 invariant_of-result c =
     let told = c.kind-kind.ensures in
-    (told.value, (∣ subst (λ k. Valid k (datum_of c.args.value)) (sym told.value) told.valid ∣₁, tt))
+    record { typed = told.value; valid = ∣ subst (λ k. Valid k (datum_of c.args.value)) (sym told.value) told.valid ∣₁ }

@@ -11,7 +11,7 @@ pub invariant_of-self : goal.invariant_of-self
 invariant_of-self c =
     let s = c.args.self.now in
     let p : Place (vec_items s.slots) c.args.index c.in-Some.k = search rules in
-    (s.narrow, ((row_written s.low s.high (vec_items s.slots) c.in-Some.k c.args.index c.new.result (typed c.args.value) s.rule p c.new.ensures).rule, tt))
+    record { narrow = s.narrow; rule = (row_written s.low s.high (vec_items s.slots) c.in-Some.k c.args.index c.new.result (typed c.args.value) s.rule p c.new.ensures).rule }
 
 pub returns : goal.returns
 returns c =
