@@ -1,5 +1,6 @@
 //! Histories of a link of stations, the law that holds of each, and a night that shows that it speaks of something.
 #![tactic(auto)]
+
 ghost use Rattle.std.specs.Prelude.{◌≡◌, length};
 ghost use Rattle.link.specs.Law.{TheLaw};
 ghost use Rattle.link.specs.Witness.{night, Witnessed};

@@ -1,5 +1,6 @@
 //! Ten samples of the protocol, as one table: packets, values, times and numbers, and what the rules make of each.
 #![tactic(auto)]
+
 ghost use Rattle.std.specs.Prelude.{◌≡◌, length};
 ghost use Rattle.samples.specs.Table.{table, TenSamples};
 

@@ -44,45 +44,56 @@ pub fn value(kind: Kind, text: &str) -> Result<Value, Fail> {
 }
 
 /// Checks a code.
-fn gives(rt: &impl Abort, code: Code, given: Option<&str>) -> Result<(), Fail> {
-    assert!(rt; u16::from(code.number()) == number(given)?);
+fn gives(rt: &impl Abort, row: &str, code: Code, given: Option<&str>) -> Result<(), Fail> {
+    assert!(rt; u16::from(code.number()) == number(given)?, "{row}");
     Ok(())
 }
 
 /// Checks a value that was read: its type and its spelling.
 fn tells(
     rt: &impl Abort,
+    row: &str,
     found: Value,
     type_word: Option<&str>,
     text: Option<&str>,
 ) -> Result<(), Fail> {
-    assert!(rt; found.kind().word() == word(type_word)?);
-    assert!(rt; found.spelling().as_bytes() == word(text)?.as_bytes());
+    assert!(rt; found.kind().word() == word(type_word)?, "{row}");
+    assert!(rt;
+        found.spelling().as_bytes() == word(text)?.as_bytes(),
+        "{row}"
+    );
     Ok(())
 }
 
 /// Checks the limits.
-fn limits<S: Store>(rt: &impl Abort, store: &S, low: u16, high: Option<&str>) -> Result<(), Fail> {
+fn limits<S: Store>(
+    rt: &impl Abort,
+    row: &str,
+    store: &S,
+    low: u16,
+    high: Option<&str>,
+) -> Result<(), Fail> {
     let (lowest, highest) = store.limits();
-    assert!(rt; lowest == low);
-    assert!(rt; highest == number(high)?);
+    assert!(rt; lowest == low, "{row}");
+    assert!(rt; highest == number(high)?, "{row}");
     Ok(())
 }
 
 /// Checks the type at an index.
 fn kind_at<S: Store>(
     rt: &impl Abort,
+    row: &str,
     store: &S,
     index: u16,
     name: Option<&str>,
 ) -> Result<(), Fail> {
     match store.kind(index) {
         Some(kind) => {
-            assert!(rt; kind.word() == word(name)?);
+            assert!(rt; kind.word() == word(name)?, "{row}");
             Ok(())
         },
         None => {
-            assert!(rt; "none" == word(name)?);
+            assert!(rt; "none" == word(name)?, "{row}");
             Ok(())
         },
     }
@@ -91,6 +102,7 @@ fn kind_at<S: Store>(
 /// Checks a read.
 fn read<S: Store>(
     rt: &impl Abort,
+    row: &str,
     store: &S,
     index: u16,
     code: Option<&str>,
@@ -99,16 +111,17 @@ fn read<S: Store>(
 ) -> Result<(), Fail> {
     match store.read(index) {
         Ok(found) => {
-            gives(rt, Code::Done, code)?;
-            tells(rt, found, name, text)
+            gives(rt, row, Code::Done, code)?;
+            tells(rt, row, found, name, text)
         }
-        Err(refused) => gives(rt, refused, code),
+        Err(refused) => gives(rt, row, refused, code),
     }
 }
 
 /// Checks a write.
 fn write<S: Store>(
     rt: &impl Abort,
+    row: &str,
     store: &mut S,
     index: u16,
     name: Option<&str>,
@@ -116,12 +129,13 @@ fn write<S: Store>(
     code: Option<&str>,
 ) -> Result<(), Fail> {
     let value = value(kind(name)?, word(text)?)?;
-    gives(rt, store.write(index, value), code)
+    gives(rt, row, store.write(index, value), code)
 }
 
 /// Checks a write of the owner.
 fn owner<S: Store>(
     rt: &impl Abort,
+    row: &str,
     store: &mut S,
     index: u16,
     name: Option<&str>,
@@ -130,7 +144,12 @@ fn owner<S: Store>(
 ) -> Result<(), Fail> {
     let kind = kind(name)?;
     let text = word(text)?;
-    gives(rt, owner_write(store, index, kind, text.as_bytes()), code)
+    gives(
+        rt,
+        row,
+        owner_write(store, index, kind, text.as_bytes()),
+        code,
+    )
 }
 
 /// Makes the call of a row and checks the answer.
@@ -142,13 +161,14 @@ fn answers<S: Store>(rt: &impl Abort, store: &mut S, row: &str) -> Result<(), Fa
     let second = words.next();
     let third = words.next();
     match call {
-        "limits" => limits(rt, store, index, first),
-        "kind" => kind_at(rt, store, index, first),
-        "read" => read(rt, store, index, first, second, third),
-        "write" => write(rt, store, index, first, second, third),
-        "owner" => owner(rt, store, index, first, second, third),
+        "limits" => limits(rt, row, store, index, first),
+        "kind" => kind_at(rt, row, store, index, first),
+        "read" => read(rt, row, store, index, first, second, third),
+        "write" => write(rt, row, store, index, first, second, third),
+        "owner" => owner(rt, row, store, index, first, second, third),
         "text" => gives(
             rt,
+            row,
             write_text(store, index, word(first)?.as_bytes()),
             second,
         ),
@@ -159,7 +179,7 @@ fn answers<S: Store>(rt: &impl Abort, store: &mut S, row: &str) -> Result<(), Fa
 /// Makes the calls of a table in order and checks each answer.
 pub fn holds<S: Store>(rt: &impl Abort, store: &mut S, table: &str) -> Result<(), Fail> {
     for row in table.lines() {
-        answers(rt, store, row).note(row)?;
+        answers(rt, store, row)?;
     }
     Ok(())
 }
