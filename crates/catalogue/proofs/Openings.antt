@@ -23,7 +23,7 @@ use Rattle.catalogue.proofs.Promised.{put_there}
 
 -- what comes of a judgement
 abbrev outcome : Station → List ℕ → ℕ → ℕ → Content → Result Partner Refusal → Opening
-outcome s slab k time content (Err ground) = not_opened s slab ground
+outcome s slab k time content (Err reason) = not_opened s slab reason
 outcome s slab k time content (Ok p) = opened s slab k time content (bytes_of (asked p.next content))
 
 -- one ground after the other
@@ -62,9 +62,9 @@ module _ (s : Station) (slab : List ℕ) (k time : ℕ) (allowed : Bool) (conten
       (Err Time) (Err ShortMemory) (Err Unknown) (Err Limit) (Err StillWaits) (Err Exhausted) (Ok (partner s k))
 
   -- a refusal
-  pub opening-refused : (r : Result Sent Refusal) (ground : Refusal) → r ≡ Err ground → judged s (length slab) k time allowed ≡ Err ground
+  pub opening-refused : (r : Result Sent Refusal) (reason : Refusal) → r ≡ Err reason → judged s (length slab) k time allowed ≡ Err reason
       → ◌≡◌ {A = Opening} (record { answer = r; after = s; slab = slab }) (opening s slab k time allowed content)
-  opening-refused r ground e j = ap (λ x. record { answer = x; after = s; slab = slab }) e ∙ sym (opening-judged ∙ ap (outcome s slab k time content) j)
+  opening-refused r reason e j = ap (λ x. record { answer = x; after = s; slab = slab }) e ∙ sym (opening-judged ∙ ap (outcome s slab k time content) j)
 
   -- where it is accepted, there is such a partner, and the packet is written and noted
   pub opening-accepted : (sent : Sent) → (opening s slab k time allowed content).answer ≡ Ok sent
@@ -73,9 +73,9 @@ module _ (s : Station) (slab : List ℕ) (k time : ℕ) (allowed : Bool) (conten
     where
       by-judgement : (r : Result Partner Refusal) → judged s (length slab) k time allowed ≡ r
           → (k < length s.partners) × ((n : ℕ) × ((opening s slab k time allowed content).after ≡ opened_after n) × (sent ≡ record { number = (partner s k).next; place = Slab (512 * k) n }))
-      by-judgement (Err ground) j =
+      by-judgement (Err reason) j =
           let e = opening-judged ∙ ap (outcome s slab k time content) j in
-          let t : ◌≡◌ {A = Result Sent Refusal} (Ok sent) (Err ground) = sym h ∙ ap (λ x. x.answer) e in
+          let t : ◌≡◌ {A = Result Sent Refusal} (Ok sent) (Err reason) = sym h ∙ ap (λ x. x.answer) e in
           let z : ◌≡◌ {A = ℕ} 0 1 = cc in
           absurd (omega arith)
       by-judgement (Ok p) j =

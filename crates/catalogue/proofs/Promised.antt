@@ -80,7 +80,7 @@ received_content s sender m (write_answer x) = received_from s (partner_at s.par
 received_content s sender m (discovery_answer x) = received_from s (partner_at s.partners sender) m
 
 received_packet : (s : Station) (sender : ℕ) (r : Result Message Refusal) → Received s (partner_at s.partners sender) (by_packet s sender r).answer (by_packet s sender r).after
-received_packet s sender (Err ground) = (refl, none_changed _ s s refl)
+received_packet s sender (Err reason) = (refl, none_changed _ s s refl)
 received_packet s sender (Ok m) = received_content s sender m m.content
 
 pub received : (s : Station) (sender : ℕ) (packet : List ℕ) → Received s (partner_at s.partners sender) (receiving s sender packet).answer (receiving s sender packet).after
@@ -88,7 +88,7 @@ received s sender packet = received_packet s sender (packet_of packet)
 
 tallied_seen : (c : Counts) (r : Result Packet Refusal) → tallied_receiving c (seen r) ≡ tallied_receiving c r
 tallied_seen c (Ok p) = refl
-tallied_seen c (Err ground) = refl
+tallied_seen c (Err reason) = refl
 
 pub received_by : (s : Station) (sender : ℕ) (packet : List ℕ) (r : Result Packet Refusal) (t : Station) → seen r ≡ (receiving s sender packet).answer → t ≡ (receiving s sender packet).after
     → Received s (partner_at s.partners sender) r t
@@ -122,8 +122,8 @@ module _ (s : Station) (slab : List ℕ) (k time : ℕ) (allowed : Bool) (conten
   abbrev Fulfilled : Opening → Type 0
   Fulfilled o = Opened s slab k o.answer o.after o.slab
 
-  refused_all : (ground : Refusal) → Fulfilled (not_opened s slab ground)
-  refused_all ground = (refl, none_changed k s s refl, refl)
+  refused_all : (reason : Refusal) → Fulfilled (not_opened s slab reason)
+  refused_all reason = (refl, none_changed k s s refl, refl)
 
   pub opened-all : Fulfilled (opening s slab k time allowed content)
   opened-all =

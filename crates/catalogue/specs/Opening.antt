@@ -20,7 +20,7 @@ pub record Opening : Type 0 where
 
 -- a refusal changes nothing
 abbrev pub not_opened : Station → List ℕ → Refusal → Opening
-not_opened s slab ground = record { answer = Err ground; after = s; slab = slab }
+not_opened s slab reason = record { answer = Err reason; after = s; slab = slab }
 
 -- the k-th partner
 abbrev pub partner : Station → ℕ → Partner

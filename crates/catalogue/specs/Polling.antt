@@ -18,7 +18,7 @@ pub record Polling : Type 0 where
 
 -- a refusal changes nothing
 abbrev pub not_polled : Station → Refusal → Polling
-not_polled s ground = record { answer = Err ground; after = s }
+not_polled s reason = record { answer = Err reason; after = s }
 
 -- the clock is the time, and else nothing changes
 abbrev pub at_rest : Station → ℕ → Polling

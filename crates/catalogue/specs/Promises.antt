@@ -18,19 +18,19 @@ use Rattle.catalogue.specs.Receiving.{count_answered}
 -- the counts after an opening: one more was opened where it is accepted
 abbrev pub tallied_opening : Counts → Result Sent Refusal → Counts
 tallied_opening c (Ok sent) = count_opened c
-tallied_opening c (Err ground) = c
+tallied_opening c (Err reason) = c
 
 -- the counts after polling: one more was sent again, or failed, where it tells that
 abbrev pub tallied_polling : Counts → Result Poll Refusal → Counts
 tallied_polling c (Ok NothingDue) = c
 tallied_polling c (Ok (Again place)) = count_repeated c
 tallied_polling c (Ok (Failed number)) = count_failed c
-tallied_polling c (Err ground) = c
+tallied_polling c (Err reason) = c
 
 -- the counts after receiving: one more was answered where the answer is accepted
 abbrev pub tallied_receiving : {X : Type 0} → Counts → Result X Refusal → Counts
 tallied_receiving c (Ok answer) = count_answered c
-tallied_receiving c (Err ground) = c
+tallied_receiving c (Err reason) = c
 
 -- there are as many partners as before, and each but the k-th is as it was
 abbrev pub Others : ℕ → Station → Station → Type 0
@@ -44,7 +44,7 @@ Outside (Reply n) before after = after ≡ before
 -- so is every byte outside the packet's place, and all of them where the opening is refused
 abbrev pub Elsewhere : Result Sent Refusal → List ℕ → List ℕ → Type 0
 Elsewhere (Ok sent) before after = Outside sent.place before after
-Elsewhere (Err ground) before after = after ≡ before
+Elsewhere (Err reason) before after = after ≡ before
 
 -- at the place told lies a packet of at most 485 bytes, which is read back as what was asked
 pub record PacketThere (content : Content) (slab : List ℕ) (sent : Sent) (reply : List ℕ) : Type 0 where
@@ -56,4 +56,4 @@ pub record PacketThere (content : Content) (slab : List ℕ) (sent : Sent) (repl
 -- with whichever reply buffer it is handed out
 abbrev pub Back : Content → List ℕ → Result Sent Refusal → Type 0
 Back content slab (Ok sent) = (reply : List ℕ) → PacketThere content slab sent reply
-Back content slab (Err ground) = Unit {0}
+Back content slab (Err reason) = Unit {0}

@@ -20,7 +20,7 @@ pub record Receiving : Type 0 where
 
 -- a refusal changes nothing
 abbrev pub not_received : Station → Refusal → Receiving
-not_received s ground = record { answer = Err ground; after = s }
+not_received s reason = record { answer = Err reason; after = s }
 
 -- one more was answered
 abbrev pub count_answered : Counts → Counts
@@ -56,7 +56,7 @@ by_content s sender m (write_answer codes) = from_partner s (partner_at s.partne
 by_content s sender m (discovery_answer readouts) = from_partner s (partner_at s.partners sender) m
 
 abbrev pub by_packet : Station → ℕ → Result Message Refusal → Receiving
-by_packet s sender (Err ground) = not_received s ground
+by_packet s sender (Err reason) = not_received s reason
 by_packet s sender (Ok m) = by_content s sender m m.content
 
 abbrev pub receiving : Station → ℕ → List ℕ → Receiving
@@ -86,7 +86,7 @@ discovery_by m (write_answer codes) = Err NoMatch
 discovery_by m (discovery_answer readouts) = Ok m
 
 abbrev pub discovery_in : Result Message Refusal → Result Message Refusal
-discovery_in (Err ground) = Err ground
+discovery_in (Err reason) = Err reason
 discovery_in (Ok m) = discovery_by m m.content
 
 abbrev pub discovery_read : List ℕ → Result Message Refusal

@@ -14,7 +14,7 @@ pub record Withdrawing : Type 0 where
 
 -- a refusal changes nothing
 abbrev pub not_withdrawn : Station → Refusal → Withdrawing
-not_withdrawn s ground = record { answer = Err ground; after = s }
+not_withdrawn s reason = record { answer = Err reason; after = s }
 
 -- one more was withdrawn
 abbrev pub count_withdrawn : Counts → Counts

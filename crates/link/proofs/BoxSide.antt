@@ -50,7 +50,7 @@ pub record Steady (b : Box) : Type 0 where
   pub short : (k : ℕ) → (record_at b k).length ≤ 512
 
 pub data Handles (b : Box) (s : ℕ) : Result Message Refusal → Result (List ℕ) Refusal → Box → Type 0 where
-  turns : {r : Result Message Refusal} (ground : Refusal) → Handles b s r (Err ground) b
+  turns : {r : Result Message Refusal} (reason : Refusal) → Handles b s r (Err reason) b
   shows : {m : Message} → m.content ≡ discovery_request → (bytes : List ℕ) → bytes ≡ bytes_of (reply_to b.contents m) → packet_of bytes ≡ Ok (reply_to b.contents m)
       → Handles b s (Ok m) (Ok bytes) (discovered b bytes).after
   again : {m : Message} → transacts m.content ≡ true → place b s < 16 → m.number ≡ (record_at b (place b s)).newest
@@ -66,7 +66,7 @@ serves_low (fresh h n) = n
 module _ (b : Box) (ok : Steady b) (s : ℕ) (p : List ℕ) where
   -- what is told of a handling
   handles : {r : Result Message Refusal} {x : Handling} → Handled b s r x → packet_of p ≡ r → Handles b s r (replied_with x.answer x.after.slab x.after.reply) x.after
-  handles (H.turns ground) e = turns ground
+  handles (H.turns reason) e = turns reason
   handles (H.shows {m = m} room d) e =
       let bytes = bytes_of (reply_to b.contents m) in
       let l = reply-size b.contents ok.sound p m e in
@@ -96,7 +96,7 @@ module _ (b : Box) (ok : Steady b) where
       go (inr d) = rw (get_or-set_other b.records k n y blank d) (ok.short n)
 
   steady-next : (s : ℕ) {r : Result Message Refusal} {t : Result (List ℕ) Refusal} {b' : Box} → Sound b'.contents → Handles b s r t b' → Steady b'
-  steady-next s g (turns ground) = ok
+  steady-next s g (turns reason) = ok
   steady-next s g (shows d bytes e back) = record { sixteen = ok.sixteen; sound = ok.sound; short = ok.short }
   steady-next s g (again t h n) = ok
   steady-next s g (carries_out {m = m} {k = k} t h full bytes e small back) =
@@ -197,7 +197,7 @@ module _ (b : Box) (ok : Steady b) (s : ℕ) (l : List Carrying) (t : Keeps b s 
       }
 
   keeps-other : (f : ℕ) {r : Result Message Refusal} {a : Result (List ℕ) Refusal} {b' : Box} → (f ≡ s → ⊥) → Handles b f r a b' → Keeps b' s l
-  keeps-other f d (turns ground) = t
+  keeps-other f d (turns reason) = t
   keeps-other f d (shows z bytes e back) = record { newest = t.newest; none = t.none; order = t.order }
   keeps-other f d (again z h n) = t
   keeps-other f d (carries_out {m = m} {k = k} z h full bytes e small back) = keeps-carried f m k bytes d h full small
@@ -223,13 +223,13 @@ module _ (b : Box) (ok : Steady b) (s : ℕ) (l : List Carrying) (t : Keeps b s 
       serves-first (known h n) = omega arith
       serves-first (fresh h n) = omega arith
 
-carries_turned : (r : Result Message Refusal) (ground : Refusal) (stays : Bool) (l : List Carrying) → carries r (Err ground) stays l ≡ l
-carries_turned (Err g) ground stays l = refl
-carries_turned (Ok m) ground stays l = refl
+carries_turned : (r : Result Message Refusal) (reason : Refusal) (stays : Bool) (l : List Carrying) → carries r (Err reason) stays l ≡ l
+carries_turned (Err g) reason stays l = refl
+carries_turned (Ok m) reason stays l = refl
 
 -- what handling a packet of a sender did to what was carried out for it
 pub data Outcome (l : List Carrying) : Result Message Refusal → Result (List ℕ) Refusal → List Carrying → Type 0 where
-  turned : {r : Result Message Refusal} (ground : Refusal) → Outcome l r (Err ground) l
+  turned : {r : Result Message Refusal} (reason : Refusal) → Outcome l r (Err reason) l
   shown : {m : Message} (c : Contents) → Sound c → m.content ≡ discovery_request → (bytes : List ℕ) → packet_of bytes ≡ Ok (reply_to c m) → Outcome l (Ok m) (Ok bytes) l
   once_more : {m : Message} (x : Carrying) → Mem x l → transacts m.content ≡ true → Outcome l (Ok m) (Ok x.reply) l
   carried_out : {m : Message} (c : Contents) → Sound c → transacts m.content ≡ true → (bytes : List ℕ) → packet_of bytes ≡ Ok (reply_to c m)
@@ -242,7 +242,7 @@ kept_in b k (x ∷ l) h = (x, inl refl, h.1)
 module _ (b : Box) (ok : Steady b) (s : ℕ) (l : List Carrying) (t : Keeps b s l) where
   pub outcome : {r : Result Message Refusal} {a : Result (List ℕ) Refusal} {b' : Box} → Handles b s r a b' → (stays : Bool) → (b'.contents ≡ b.contents → stays ≡ true)
       → Outcome l r a (carries r a stays l)
-  outcome (turns {r = r} ground) stays st = rw (carries_turned r ground stays l) (turned ground)
+  outcome (turns {r = r} reason) stays st = rw (carries_turned r reason stays l) (turned reason)
   outcome (shows {m = m} d bytes e back) stays st = let z : transacts m.content ≡ false = ap transacts d in rw z (shown b.contents ok.sound d bytes back)
   outcome (again {m = m} z h n) stays st =
       let y = kept_in b (place b s) l (t.newest h) in
@@ -252,7 +252,7 @@ module _ (b : Box) (ok : Steady b) (s : ℕ) (l : List Carrying) (t : Keeps b s 
 
   keeps_same : {r : Result Message Refusal} {a : Result (List ℕ) Refusal} {b' : Box} → Handles b s r a b' → (stays : Bool) → (b'.contents ≡ b.contents → stays ≡ true)
       → Keeps b' s (carries r a stays l)
-  keeps_same (turns {r = r} ground) stays st = rw (carries_turned r ground stays l) t
+  keeps_same (turns {r = r} reason) stays st = rw (carries_turned r reason stays l) t
   keeps_same (shows {m = m} d bytes e back) stays st = let z : transacts m.content ≡ false = ap transacts d in rw z (record { newest = t.newest; none = t.none; order = t.order })
   keeps_same (again {m = m} z h n) stays st = rw (z, st refl, repeats_it b (place b s) m.number l (t.newest h) n) t
   keeps_same (carries_out {m = m} {k = k} z h full bytes e small back) stays st =

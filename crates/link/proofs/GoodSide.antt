@@ -26,7 +26,7 @@ left_sound (write_answer codes) c ok = ok
 left_sound (discovery_answer readouts) c ok = ok
 
 pub handled_sound : (b : Box) (s : ℕ) {r : Result Message Refusal} {x : Handling} → Sound b.contents → Handled b s r x → Sound x.after.contents
-handled_sound b s ok (turns ground) = ok
+handled_sound b s ok (turns reason) = ok
 handled_sound b s ok (shows room d) = ok
 handled_sound b s ok (again room t h n) = ok
 handled_sound b s ok (carries_out {m = m} room t h) = left_sound m.content b.contents ok

@@ -30,7 +30,7 @@ pub data Serves (b : Box) (s n : ℕ) : ℕ → Type 0 where
   fresh : 16 ≤ place b s → first_by is_empty b.records < 16 → Serves b s n (first_by is_empty b.records)
 
 pub data Handled (b : Box) (s : ℕ) : Result Message Refusal → Handling → Type 0 where
-  turns : {r : Result Message Refusal} (ground : Refusal) → Handled b s r (refused b ground)
+  turns : {r : Result Message Refusal} (reason : Refusal) → Handled b s r (refused b reason)
   shows : {m : Message} → Roomy b → m.content ≡ discovery_request → Handled b s (Ok m) (discovered b (bytes_of (reply_to b.contents m)))
   again : {m : Message} → Roomy b → transacts m.content ≡ true → place b s < 16 → m.number ≡ (record_at b (place b s)).newest → Handled b s (Ok m) (kept b (place b s))
   carries_out : {m : Message} {k : ℕ} → Roomy b → transacts m.content ≡ true → Serves b s m.number k → Handled b s (Ok m) (carried b s m k (bytes_of (reply_to b.contents m)))
@@ -66,7 +66,7 @@ module _ (b : Box) (s : ℕ) (room : Roomy b) where
   content-view m (discovery_answer readouts) e = turns Direction
 
   packet-view : (r : Result Message Refusal) → Handled b s r (by_packet b s r)
-  packet-view (Err ground) = turns ground
+  packet-view (Err reason) = turns reason
   packet-view (Ok m) = content-view m m.content refl
 
 pub handled_view : (b : Box) (s : ℕ) (p : List ℕ) → Handled b s (packet_of p) (handled b s p)

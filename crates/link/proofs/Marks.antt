@@ -140,14 +140,14 @@ left_stays (discovery_answer readouts) c h = refl
 
 -- the writes that a packet asks for
 abbrev pub writes_read : Result Message Refusal → List (ℕ × List ℕ)
-writes_read (Err ground) = []
+writes_read (Err reason) = []
 writes_read (Ok m) = writes_in m.content
 
 abbrev pub stays : Box → ℕ → List ℕ → Bool
 stays b s p = same_on (handled b s p).after.contents.element b.contents.element (writes_read (packet_of p))
 
 handled_stays : (b : Box) (s : ℕ) {r : Result Message Refusal} {x : Handling} → Handled b s r x → same_on x.after.contents.element b.contents.element (writes_read r) ≡ true → x.after.contents ≡ b.contents
-handled_stays b s (turns ground) h = refl
+handled_stays b s (turns reason) h = refl
 handled_stays b s (shows room d) h = refl
 handled_stays b s (again room t low n) h = refl
 handled_stays b s (carries_out {m = m} room t serves) h = left_stays m.content b.contents h

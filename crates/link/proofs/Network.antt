@@ -189,7 +189,7 @@ module _ (S : Start) (h : List Event) (hp : Happens S h) (sent : SentAll h) (all
   module _ (b f : ℕ) (p : List ℕ) (arrived : Sent h f b p) (e : Event) where
     reply-kind : {r : Result Message Refusal} {a : Result (List ℕ) Refusal} {l : List Carrying} (q : List ℕ) → Outcome (carryings f (box_calls b h)) r a l → a ≡ Ok q
         → ((x : Carrying) → Mem x l → Mem x (carryings f (box_calls b (e ∷ h)))) → Kind (e ∷ h) b f q
-    reply-kind q (turned ground) ea there = let z : ◌≡◌ {A = ℕ} 0 1 = cc in absurd (omega arith)
+    reply-kind q (turned reason) ea there = let z : ◌≡◌ {A = ℕ} 0 1 = cc in absurd (omega arith)
     reply-kind q (shown {m = m} c ok d bytes back) ea there =
         let z : bytes ≡ q = cc in
         shown_sent c m d (subst (λ (y : List ℕ). packet_of y ≡ Ok (reply_to c m)) z back)
@@ -198,7 +198,7 @@ module _ (S : Start) (h : List Event) (hp : Happens S h) (sent : SentAll h) (all
 
     carried-new : {r : Result Message Refusal} {a : Result (List ℕ) Refusal} {l : List Carrying} (x : Carrying) → Outcome (carryings f (box_calls b h)) r a l → packet_of p ≡ r
         → (Mem x (carryings f (box_calls b h)) → CarriedFor (e ∷ h) f b x) → Mem x l → CarriedFor (e ∷ h) f b x
-    carried-new x (turned ground) er old m = old m
+    carried-new x (turned reason) er old m = old m
     carried-new x (shown c ok d bytes back) er old m = old m
     carried-new x (once_more y i t) er old m = old m
     carried-new x (carried_out c ok t bytes back) er old (inr m) = old m

@@ -80,15 +80,15 @@ module _ (was : Option Element) (k : ℕ) where
   left-holds (write_answer codes) c before h = h
   left-holds (discovery_answer readouts) c before h = h
 
-  turned-write : (r : Result Message Refusal) (ground : Refusal) (stays : Bool) (l : List Carrying) (before : Option (List ℕ)) → handled_write k r (Err ground) stays l before ≡ before
-  turned-write (Err g) ground stays l before = refl
-  turned-write (Ok m) ground stays l before = refl
+  turned-write : (r : Result Message Refusal) (reason : Refusal) (stays : Bool) (l : List Carrying) (before : Option (List ℕ)) → handled_write k r (Err reason) stays l before ≡ before
+  turned-write (Err g) reason stays l before = refl
+  turned-write (Ok m) reason stays l before = refl
 
   -- handling keeps it
   module _ (b : Box) (s : ℕ) (l : List Carrying) (t : Keeps b s l) (before : Option (List ℕ)) (h : Holds was (b.contents.element k) before) where
     handle-holds : {r : Result Message Refusal} {a : Result (List ℕ) Refusal} {b' : Box} → Handles b s r a b' → (stays : Bool) → (b'.contents ≡ b.contents → stays ≡ true)
         → Holds was (b'.contents.element k) (handled_write k r a stays l before)
-    handle-holds (turns {r = r} ground) stays st = rw (turned-write r ground stays l before) h
+    handle-holds (turns {r = r} reason) stays st = rw (turned-write r reason stays l before) h
     handle-holds (shows {m = m} d bytes e back) stays st = let z : transacts m.content ≡ false = ap transacts d in rw z h
     handle-holds (again {m = m} z low n) stays st = rw (z, st refl, repeats_it b (place b s) m.number l (t.newest low) n) h
     handle-holds (carries_out {m = m} z serves full bytes e small back) stays st =

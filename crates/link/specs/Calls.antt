@@ -1,7 +1,7 @@
 -- What happens in a link: the calls at its stations, each with what it was handed and answered. A history is a list of
 -- events, the newest first.
 use Rattle.std.specs.Prelude.{◌≡◌, ℕ, ◌<◌, Bool, cond, ◌⊎◌, List, [], ◌∷◌, map, Ok, Err, Result, ◌==◌}
-use Rattle.std.specs.List.{AllByRecursion as All}
+use Rattle.std.specs.List.{AllByRecursion}
 use Rattle.protocol.specs.declared.kind.Kind.{Kind}
 use Rattle.protocol.specs.declared.refusal.Refusal.{Refusal}
 use Rattle.packet.specs.Messages.{Message, Content, read_request, write_request}
@@ -30,8 +30,8 @@ requested (writes changes) = write_request (map change_of changes)
 
 -- an index is a number of 16 bits
 abbrev pub Narrow : Order → Type 0
-Narrow (reads indices) = All (λ i. i < 65536) indices
-Narrow (writes changes) = All (λ c. c.index < 65536) changes
+Narrow (reads indices) = AllByRecursion (λ i. i < 65536) indices
+Narrow (writes changes) = AllByRecursion (λ c. c.index < 65536) changes
 
 -- what an opening was answered: a refusal, or the number and the packet to send
 pub data Opened : Type 0 where
@@ -84,7 +84,7 @@ box_calls b (at_catalogue d x ∷ h) = box_calls b h
 -- the bytes that are handed out
 abbrev pub bytes_in : Result (List ℕ) Refusal → List ℕ
 bytes_in (Ok bytes) = bytes
-bytes_in (Err ground) = []
+bytes_in (Err reason) = []
 
 -- the bytes at a place
 abbrev pub bytes_at : Place → List ℕ → List ℕ → List ℕ
@@ -92,7 +92,7 @@ bytes_at place slab reply = bytes_in (part_of place slab reply)
 
 -- an opening as it is told, with the packet as the slab has it then
 abbrev pub opened_with : Result Sent Refusal → List ℕ → Opened
-opened_with (Err ground) slab = not_opened ground
+opened_with (Err reason) slab = not_opened reason
 opened_with (Ok sent) slab = opens sent.number (bytes_at sent.place slab [])
 
 -- a poll as it is told, with the packet as the slab has it
@@ -102,10 +102,10 @@ polled_as (Again place) slab = again (bytes_at place slab [])
 polled_as (Failed number) slab = failed number
 
 abbrev pub polled_with : Result Poll Refusal → List ℕ → Polled
-polled_with (Err ground) slab = not_polled ground
+polled_with (Err reason) slab = not_polled reason
 polled_with (Ok p) slab = polled_as p slab
 
 -- a handling as it is told, with the reply as slab and reply buffer have it then
 abbrev pub replied_with : Result Place Refusal → List ℕ → List ℕ → Result (List ℕ) Refusal
-replied_with (Err ground) slab reply = Err ground
+replied_with (Err reason) slab reply = Err reason
 replied_with (Ok place) slab reply = Ok (bytes_at place slab reply)

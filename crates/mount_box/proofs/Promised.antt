@@ -31,8 +31,8 @@ use Rattle.mount_box.proofs.Ways.{Handles, handles, stopped, again, done, told}
 ok_same : {X E : Type 0} (x y : X) → ◌≡◌ {A = Result X E} (Ok x) (Ok y) → x ≡ y
 ok_same x y e = cc
 
-no_place : {X : Type 0} (ground : Refusal) (x : X) → Err ground ≡ Ok x → ⊥
-no_place ground x e = let z : ◌≡◌ {A = ℕ} 0 1 = cc in omega arith
+no_place : {X : Type 0} (reason : Refusal) (x : X) → Err reason ≡ Ok x → ⊥
+no_place reason x e = let z : ◌≡◌ {A = ℕ} 0 1 = cc in omega arith
 
 -- a packet says one thing
 same_message : (packet : List ℕ) (m n : Message) → packet_of packet ≡ Ok m → packet_of packet ≡ Ok n → m ≡ n
@@ -94,7 +94,7 @@ fits b packet m sound s p ask =
 
 module _ (b : Box) (sender : ℕ) (packet : List ℕ) (sound : Sound b.contents) (all : (m : Message) → packet_of packet ≡ Ok m → Orders m.content → length b.records ≡ 16) where
   pub repeats : (h : Handling) → Handles b sender packet h → Repeats sender packet h
-  repeats h (stopped ground) m n place q p o a r u e = absurd (no_place ground place a)
+  repeats h (stopped reason) m n place q p o a r u e = absurd (no_place reason place a)
   repeats h (told w s t d) m n place q p o a r u e = absurd (not_both packet m w p t o d)
   repeats h (again w k s t v st) m n place q p o a r u e =
       repeat_kept b sender k q n s r u (ap (standing b.records sender) (e ∙ ap (λ x. x.number) (same_message packet m w p t)) ∙ st)
@@ -112,7 +112,7 @@ module _ (b : Box) (sender : ℕ) (packet : List ℕ) (sound : Sound b.contents)
       ∙ (λ i. record { answer = Ok (Slab (512 * k) (at i).length); after = after })
 
   pub others : (h : Handling) → Handles b sender packet h → Others b sender h
-  others h (stopped ground) = refl
+  others h (stopped reason) = refl
   others h (told w s t d) =
       let f = fits b packet w sound s t (ap direction_of d) in
       record { records = refl; slab = refl; contents = refl; reply = put_outside b.reply (reply_bytes b w) 0 f.in_reply }
@@ -170,14 +170,14 @@ module _ (b : Box) (sender : ℕ) (packet : List ℕ) (sound : Sound b.contents)
       }
 
   back-carried : (h : Handling) → Handles b sender packet h → (m : Message) (k : ℕ) (place : Place) → packet_of packet ≡ Ok m → Orders m.content → standing b.records sender m.number ≡ Ok (due k) → h.answer ≡ Ok place → ReadsAt place h.after (reply_to b.contents m)
-  back-carried h (stopped ground) m k place p o e a = absurd (no_place ground place a)
+  back-carried h (stopped reason) m k place p o e a = absurd (no_place reason place a)
   back-carried h (told w s t d) m k place p o e a = absurd (not_both packet m w p t o d)
   back-carried h (again w j s t v st) m k place p o e a = absurd (not_due b.records sender m w k j (same_message packet m w p t) e st)
   back-carried h (done w j s t v st) m k place p o e a =
       subst (λ x. ReadsAt place (carried b sender w j (reply_bytes b w)).after (reply_to b.contents x)) (same_message packet w m t p) (reads-slab w j place s t v st a)
 
   back-discovered : (h : Handling) → Handles b sender packet h → (m : Message) (place : Place) → packet_of packet ≡ Ok m → m.content ≡ discovery_request → h.answer ≡ Ok place → ReadsAt place h.after (reply_to b.contents m)
-  back-discovered h (stopped ground) m place p c a = absurd (no_place ground place a)
+  back-discovered h (stopped reason) m place p c a = absurd (no_place reason place a)
   back-discovered h (told w s t d) m place p c a =
       subst (λ x. ReadsAt place (discovered b (reply_bytes b w)).after (reply_to b.contents x)) (same_message packet w m t p) (reads-reply w place s t d a)
   back-discovered h (again w j s t v st) m place p c a = absurd (not_both packet w m t p v c)
@@ -187,7 +187,7 @@ module _ (b : Box) (sender : ℕ) (packet : List ℕ) (sound : Sound b.contents)
   backs h w = record { carried = back-carried h w; discovered = back-discovered h w }
 
   pub groups : (h : Handling) → Handles b sender packet h → Groups b sender packet h
-  groups h (stopped ground) m answer k place bytes p o e a part q = absurd (no_place ground place a)
+  groups h (stopped reason) m answer k place bytes p o e a part q = absurd (no_place reason place a)
   groups h (told w s t d) m answer k place bytes p o e a part q = absurd (not_both packet m w p t o d)
   groups h (again w j s t v st) m answer k place bytes p o e a part q = absurd (not_due b.records sender m w k j (same_message packet m w p t) e st)
   groups h (done w j s t v st) m answer k place bytes p o e a part q =
@@ -222,14 +222,14 @@ responded b sender packet m h sound rows room p sixteen e =
     })
 
 -- a packet was refused
-pub refused_so : (b : Box) (sender : ℕ) (packet : List ℕ) (r : Result Place Refusal) (ground : Refusal) → r ≡ Err ground → outcome r b ≡ handled b sender packet → Promises b sender packet (outcome r b)
-refused_so b sender packet r ground g e =
+pub refused_so : (b : Box) (sender : ℕ) (packet : List ℕ) (r : Result Place Refusal) (reason : Refusal) → r ≡ Err reason → outcome r b ≡ handled b sender packet → Promises b sender packet (outcome r b)
+refused_so b sender packet r reason g e =
     subst (λ x. outcome x b ≡ handled b sender packet → Promises b sender packet (outcome x b)) (sym g)
     (λ q. record {
       handled = q;
-      repeat = λ m n place again p o a r u i. absurd (no_place ground place a);
-      groups = λ m answer k place bytes p o i a part r. absurd (no_place ground place a);
+      repeat = λ m n place again p o a r u i. absurd (no_place reason place a);
+      groups = λ m answer k place bytes p o i a part r. absurd (no_place reason place a);
       others = refl;
-      back = record { carried = λ m k place p o i a. absurd (no_place ground place a); discovered = λ m place p d a. absurd (no_place ground place a) };
+      back = record { carried = λ m k place p o i a. absurd (no_place reason place a); discovered = λ m place p d a. absurd (no_place reason place a) };
     })
     e

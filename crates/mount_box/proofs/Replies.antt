@@ -3,7 +3,7 @@
 --     reply-back    it is read back
 --     reply-size    and has at most 485 bytes
 use Rattle.std.proofs.Common.{◌≡◌, ℕ, ◌≤◌, Bool, true, false, cond, List, [], ◌∷◌, map, length, is_some, Some, None, Ok, Option, sym, refl, ap, ◌∙◌, subst, arith}
-use Rattle.std.specs.List.{AllByRecursion as All}
+use Rattle.std.specs.List.{AllByRecursion}
 use Rattle.std.proofs.lemmas.List.{length-map}
 use Rattle.packet.specs.Heads.{Goes}
 use Rattle.packet.specs.Groups.{KeptReadout}
@@ -25,7 +25,7 @@ shown_kept c ok i = go (inside c i) (c.element i) (ok.valid i)
     go true None h = λ z. omega arith
     go true (Some e) h = ap is_some h
 
-all_shown : (c : Contents) → Sound c → (is : List ℕ) → All KeptReadout (map (shown c) is)
+all_shown : (c : Contents) → Sound c → (is : List ℕ) → AllByRecursion KeptReadout (map (shown c) is)
 all_shown c ok [] = tt
 all_shown c ok (i ∷ is) = (shown_kept c ok i, all_shown c ok is)
 

@@ -10,7 +10,7 @@ use Rattle.mount_box.specs.Answers.{Orders}
 use Rattle.mount_box.specs.Handling.{Box, Handling, refused, reply_to, discovered, kept, carried, by_standing, by_content, by_packet, short, handled}
 
 pub data Handles (b : Box) (sender : ℕ) (packet : List ℕ) : Handling → Type 0 where
-  stopped : (ground : Refusal) → Handles b sender packet (refused b ground)
+  stopped : (reason : Refusal) → Handles b sender packet (refused b reason)
   again : (m : Message) (k : ℕ) → short b ≡ false → packet_of packet ≡ Ok m → Orders m.content → standing b.records sender m.number ≡ Ok (repeated k) → Handles b sender packet (kept b k)
   done : (m : Message) (k : ℕ) → short b ≡ false → packet_of packet ≡ Ok m → Orders m.content → standing b.records sender m.number ≡ Ok (due k) → Handles b sender packet (carried b sender m k (bytes_of (reply_to b.contents m)))
   told : (m : Message) → short b ≡ false → packet_of packet ≡ Ok m → m.content ≡ discovery_request → Handles b sender packet (discovered b (bytes_of (reply_to b.contents m)))
@@ -18,7 +18,7 @@ pub data Handles (b : Box) (sender : ℕ) (packet : List ℕ) : Handling → Typ
 module _ (b : Box) (sender : ℕ) (packet : List ℕ) where
   module _ (m : Message) (s : short b ≡ false) (p : packet_of packet ≡ Ok m) where
     standing-way : (st : Result Standing Refusal) → standing b.records sender m.number ≡ st → Orders m.content → Handles b sender packet (by_standing b sender m st)
-    standing-way (Err ground) e o = stopped ground
+    standing-way (Err reason) e o = stopped reason
     standing-way (Ok (repeated k)) e o = again m k s p o e
     standing-way (Ok (due k)) e o = done m k s p o e
 
@@ -31,7 +31,7 @@ module _ (b : Box) (sender : ℕ) (packet : List ℕ) where
     content-way (discovery_answer xs) e = stopped Direction
 
   packet-way : (r : Result Message Refusal) → short b ≡ false → packet_of packet ≡ r → Handles b sender packet (by_packet b sender r)
-  packet-way (Err ground) s p = stopped ground
+  packet-way (Err reason) s p = stopped reason
   packet-way (Ok m) s p = content-way m s p m.content refl
 
   memory-way : (t : Bool) → short b ≡ t → Handles b sender packet (cond t (refused b ShortMemory) (by_packet b sender (packet_of packet)))

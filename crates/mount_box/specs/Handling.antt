@@ -29,7 +29,7 @@ pub record Handling : Type 0 where
 
 -- a refusal changes nothing
 abbrev pub refused : Box → Refusal → Handling
-refused b ground = record { answer = Err ground; after = b }
+refused b reason = record { answer = Err reason; after = b }
 
 -- the answer bears the version and the number of the request
 abbrev pub reply_to : Contents → Message → Message
@@ -59,7 +59,7 @@ carried b sender m k bytes = record {
 }
 
 abbrev pub by_standing : Box → ℕ → Message → Result Standing Refusal → Handling
-by_standing b sender m (Err ground) = refused b ground
+by_standing b sender m (Err reason) = refused b reason
 by_standing b sender m (Ok (repeated k)) = kept b k
 by_standing b sender m (Ok (due k)) = carried b sender m k (bytes_of (reply_to b.contents m))
 
@@ -73,7 +73,7 @@ by_content b sender m (write_answer codes) = refused b Direction
 by_content b sender m (discovery_answer readouts) = refused b Direction
 
 abbrev pub by_packet : Box → ℕ → Result Message Refusal → Handling
-by_packet b sender (Err ground) = refused b ground
+by_packet b sender (Err reason) = refused b reason
 by_packet b sender (Ok m) = by_content b sender m m.content
 
 -- the slab has fewer than 8,192 bytes, or the reply buffer fewer than 512

@@ -85,7 +85,7 @@ pub record Aside (b : Box) (n : ℕ) (after : Box) : Type 0 where
   pub reply : Outside 0 n b.reply after.reply
 
 abbrev pub OthersBy : Box → ℕ → Result Place Refusal → Box → Type 0
-OthersBy b sender (Err ground) after = after ≡ b
+OthersBy b sender (Err reason) after = after ≡ b
 OthersBy b sender (Ok (Slab start n)) after = OwnRow b sender start n after
 OthersBy b sender (Ok (Reply n)) after = Aside b n after
 

@@ -27,7 +27,7 @@ fn read_all<S: Store>(
 ) -> usize
     requires { length (indices_ahead indices) ≤ length readings.old }
     ensures count { result ≡ length (indices_ahead indices.entry) }
-    ensures readings { map readout_of (take result readings.new) ≡ map (shown (meaning store.now)) (indices_ahead indices.entry) }
+    ensures readings { map readout_of (take result readings.new) ≡ map (shown (S.meaning store.now)) (indices_ahead indices.entry) }
 {
     let mut count = 0;
     while let Some(index) = indices.next_index() {
@@ -41,8 +41,8 @@ fn read_all<S: Store>(
 fn write_all<S: Store>(store: &mut S, mut writes: Writes<'_>, codes: &mut [Code]) -> usize
     requires { length (writes_ahead writes) ≤ length codes.old }
     ensures count { result ≡ length (writes_ahead writes.entry) }
-    ensures codes { take result codes.new ≡ write_codes (meaning store.old) (writes_ahead writes.entry) }
-    ensures after { meaning store.new ≡ after_writes (meaning store.old) (writes_ahead writes.entry) }
+    ensures codes { take result codes.new ≡ write_codes (S.meaning store.old) (writes_ahead writes.entry) }
+    ensures after { S.meaning store.new ≡ after_writes (S.meaning store.old) (writes_ahead writes.entry) }
 {
     let mut count = 0;
     while let Some(write) = writes.next_write() {
@@ -62,7 +62,7 @@ fn answer_read<S: Store>(
 ) -> Result<usize, Refusal>
     requires room { 512 ≤ length row.old }
     requires groups { counted (indices_ahead indices) ≡ true }
-    ensures { Answers (answered version number (read_answer (map (shown (meaning store.now)) (indices_ahead indices.entry)))) result row.old row.new }
+    ensures { Answers (answered version number (read_answer (map (shown (S.meaning store.now)) (indices_ahead indices.entry)))) result row.old row.new }
 {
     let mut readings = [Err(Code::NotFound); 10];
     let count = read_all(store, indices, &mut readings);
@@ -79,8 +79,8 @@ fn answer_write<S: Store>(
 ) -> Result<usize, Refusal>
     requires room { 512 ≤ length row.old }
     requires groups { counted (writes_ahead writes) ≡ true }
-    ensures answer { Answers (answered version number (write_answer (write_codes (meaning store.old) (writes_ahead writes.entry)))) result row.old row.new }
-    ensures after { meaning store.new ≡ after_writes (meaning store.old) (writes_ahead writes.entry) }
+    ensures answer { Answers (answered version number (write_answer (write_codes (S.meaning store.old) (writes_ahead writes.entry)))) result row.old row.new }
+    ensures after { S.meaning store.new ≡ after_writes (S.meaning store.old) (writes_ahead writes.entry) }
 {
     let mut codes = [Code::NotFound; 10];
     let count = write_all(store, writes, &mut codes);
@@ -90,7 +90,7 @@ fn answer_write<S: Store>(
 /// Answers a Discovery request at the front of the row.
 fn answer_discovery<S: Store>(store: &S, row: &mut [u8], number: u16) -> Result<usize, Refusal>
     requires { 512 ≤ length row.old }
-    ensures { Answers (answered V11 number (who (meaning store.now))) result row.old row.new }
+    ensures { Answers (answered V11 number (who (S.meaning store.now))) result row.old row.new }
 {
     write_discovery_answer(row, number, store.read(2), store.read(3))
 }
@@ -103,8 +103,8 @@ pub(crate) fn carry_out<S: Store>(
 ) -> Result<usize, Refusal>
     requires room { 512 ≤ length row.old }
     requires received { Received (message_of request) }
-    ensures answer { Carries (meaning store.old) (message_of request.entry) result row.old row.new }
-    ensures after { meaning store.new ≡ left_by (meaning store.old) (message_of request.entry).content }
+    ensures answer { Carries (S.meaning store.old) (message_of request.entry) result row.old row.new }
+    ensures after { S.meaning store.new ≡ left_by (S.meaning store.old) (message_of request.entry).content }
 {
     let version = request.version;
     let number = request.number;

@@ -21,7 +21,7 @@ impl<S: Store> MountBox<S> {
         requires room { 8192 ≤ length slab.old }
         requires received { Received (message_of request) }
         requires orders { Orders (message_of request).content }
-        ensures served { (reply : List ℕ) → outcome result (box_of meaning self.new slab.new reply) ≡ by_standing (box_of meaning self.old slab.old reply) sender (message_of request.entry) (standing self.old.senders.records sender request.entry.number) }
+        ensures served { (reply : List ℕ) → outcome result (box_of S.meaning self.new slab.new reply) ≡ by_standing (box_of S.meaning self.old slab.old reply) sender (message_of request.entry) (standing self.old.senders.records sender request.entry.number) }
         ensures sixteen { length self.old.senders.records ≡ 16 }
     {
         match self.senders.standing(sender, request.number)? {
@@ -54,7 +54,7 @@ impl<S: Store> MountBox<S> {
         requires slab { 8192 ≤ length slab.old }
         requires reply { 512 ≤ length reply.old }
         requires received { Received (message_of request) }
-        ensures responded { outcome result (box_of meaning self.new slab.new reply.new) ≡ by_content (box_of meaning self.old slab.old reply.old) sender (message_of request.entry) (message_of request.entry).content }
+        ensures responded { outcome result (box_of S.meaning self.new slab.new reply.new) ≡ by_content (box_of S.meaning self.old slab.old reply.old) sender (message_of request.entry) (message_of request.entry).content }
         ensures sixteen { Orders (message_of request.entry).content → length self.old.senders.records ≡ 16 }
     {
         match request.body {
@@ -69,7 +69,7 @@ impl<S: Store> MountBox<S> {
         }
     }
 
-    /// Handles a packet from a sender, and tells the place of the reply. `slab::part::hand_out` hands it out.
+    /// Handles a packet from a sender, and tells the place of the reply. `slab_rows::part::hand_out` hands it out.
     pub fn handle(
         &mut self,
         slab: &mut [u8],
@@ -77,11 +77,11 @@ impl<S: Store> MountBox<S> {
         sender: u32,
         packet: &[u8],
     ) -> Result<Place, Refusal>
-        ensures handled { outcome result (box_of meaning self.new slab.new reply.new) ≡ handled (box_of meaning self.old slab.old reply.old) sender packet.now }
-        ensures repeat { Repeats sender packet.now (outcome result (box_of meaning self.new slab.new reply.new)) }
-        ensures groups { Groups (box_of meaning self.old slab.old reply.old) sender packet.now (outcome result (box_of meaning self.new slab.new reply.new)) }
-        ensures others { Others (box_of meaning self.old slab.old reply.old) sender (outcome result (box_of meaning self.new slab.new reply.new)) }
-        ensures back { Back (box_of meaning self.old slab.old reply.old) sender packet.now (outcome result (box_of meaning self.new slab.new reply.new)) }
+        ensures handled { outcome result (box_of S.meaning self.new slab.new reply.new) ≡ handled (box_of S.meaning self.old slab.old reply.old) sender packet.now }
+        ensures repeat { Repeats sender packet.now (outcome result (box_of S.meaning self.new slab.new reply.new)) }
+        ensures groups { Groups (box_of S.meaning self.old slab.old reply.old) sender packet.now (outcome result (box_of S.meaning self.new slab.new reply.new)) }
+        ensures others { Others (box_of S.meaning self.old slab.old reply.old) sender (outcome result (box_of S.meaning self.new slab.new reply.new)) }
+        ensures back { Back (box_of S.meaning self.old slab.old reply.old) sender packet.now (outcome result (box_of S.meaning self.new slab.new reply.new)) }
     {
         if slab.len() < 8192 || reply.len() < 512 {
             return Err(Refusal::ShortMemory);

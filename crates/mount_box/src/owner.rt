@@ -12,8 +12,8 @@ use store::store::Store;
 impl<S: Store> MountBox<S> {
     /// Writes a text to the store without any packet, as a value of the type named. The records stay.
     pub fn owner_write(&mut self, index: u16, kind: Kind, text: &[u8]) -> Code
-        ensures code { code_number result ≡ (owner_write_of (meaning self.old.store) index kind text.now).code }
-        ensures after { meaning self.new.store ≡ (owner_write_of (meaning self.old.store) index kind text.now).after }
+        ensures code { code_number result ≡ (owner_write_of (S.meaning self.old.store) index kind text.now).code }
+        ensures after { S.meaning self.new.store ≡ (owner_write_of (S.meaning self.old.store) index kind text.now).after }
         ensures records { self.new.senders.records ≡ self.old.senders.records }
     {
         owner_write(&mut self.store, index, kind, text)

@@ -5,7 +5,7 @@
 use Rattle.std.proofs.Common.{◌≡◌, ℕ, zero, suc, ◌+◌, ◌-◌, ◌<◌, ◌≤◌, Bool, true, false, cond, ◌&&◌, eqb, leb, List, [], ◌∷◌, length, drop, is_some, IfOk, Some, None, Ok, Err, codes, decimal, Option, Result, sym, refl, ap, ◌∙◌, subst, ⊎_elim, arith}
 use Rattle.std.specs.Option.{option_map}
 use Rattle.std.specs.Str.Parse.{digits_value}
-use Rattle.std.specs.List.{AllByRecursion as All}
+use Rattle.std.specs.List.{AllByRecursion}
 use Rattle.std.proofs.lemmas.Fmt.{decimal_digit, decimal-digits_value}
 use Rattle.std.proofs.ByRecursion.{All-drop}
 use Rattle.std.proofs.lemmas.Slice.Eq.{bytes_eq-Decides}
@@ -104,22 +104,22 @@ module _ {X : Type 0} (width : ℕ) (group : List (List ℕ) → Result X ℕ) w
       (λ ys h. groups-few (k + width) (least - 1) (drop width (f ∷ fs)) most ys h) e
 
   -- each of them is read from fields that are the packet's
-  module _ (P : X → Type 0) (one : (fs : List (List ℕ)) (x : X) → All Piece fs → group fs ≡ Ok x → P x) where
-    each_step : (k : ℕ) (fs : List (List ℕ)) (r : Result X ℕ) (s : Result (List X) ℕ) (xs : List X) → group fs ≡ r → All Piece fs → ((ys : List X) → s ≡ Ok ys → All P ys) → or_within k r (λ x. in_front x s) ≡ Ok xs → All P xs
+  module _ (P : X → Type 0) (one : (fs : List (List ℕ)) (x : X) → AllByRecursion Piece fs → group fs ≡ Ok x → P x) where
+    each_step : (k : ℕ) (fs : List (List ℕ)) (r : Result X ℕ) (s : Result (List X) ℕ) (xs : List X) → group fs ≡ r → AllByRecursion Piece fs → ((ys : List X) → s ≡ Ok ys → AllByRecursion P ys) → or_within k r (λ x. in_front x s) ≡ Ok xs → AllByRecursion P xs
     each_step k fs (Err place) s xs g a h e = let z : ◌≡◌ {A = ℕ} 0 1 = cc in absurd (omega arith)
     each_step k fs (Ok x) (Err field) xs g a h e = let z : ◌≡◌ {A = ℕ} 0 1 = cc in absurd (omega arith)
-    each_step k fs (Ok x) (Ok ys) xs g a h e = subst (All P) (ok_same (x ∷ ys) xs e) (one fs x a g, h ys refl)
+    each_step k fs (Ok x) (Ok ys) xs g a h e = subst (AllByRecursion P) (ok_same (x ∷ ys) xs e) (one fs x a g, h ys refl)
 
-    pub groups-each : (k least : ℕ) (fs : List (List ℕ)) (most : ℕ) (xs : List X) → All Piece fs → groups width group k least fs most ≡ Ok xs → All P xs
+    pub groups-each : (k least : ℕ) (fs : List (List ℕ)) (most : ℕ) (xs : List X) → AllByRecursion Piece fs → groups width group k least fs most ≡ Ok xs → AllByRecursion P xs
     groups-each k least [] most xs a e =
         let p = passed_on (eqb least 0) (Ok []) k xs e in
-        subst (All P) (ok_same [] xs p.1) tt
+        subst (AllByRecursion P) (ok_same [] xs p.1) tt
     groups-each k least (f ∷ fs) zero xs a e = let z : ◌≡◌ {A = ℕ} 0 1 = cc in absurd (omega arith)
     groups-each k least (f ∷ fs) (suc most) xs a e =
         each_step k (f ∷ fs) (group (f ∷ fs)) (groups width group (k + width) (least - 1) (drop width (f ∷ fs)) most) xs refl a
         (λ ys h. groups-each (k + width) (least - 1) (drop width (f ∷ fs)) most ys (All-drop Piece width (f ∷ fs) a) h) e
 
-first_all : {X : Type 0} (P : X → Type 0) (xs : List X) (x : X) → All P xs → first xs ≡ Some x → P x
+first_all : {X : Type 0} (P : X → Type 0) (xs : List X) (x : X) → AllByRecursion P xs → first xs ≡ Some x → P x
 first_all P [] x a e = let z : ◌≡◌ {A = ℕ} 0 1 = cc in absurd (omega arith)
 first_all P (y ∷ xs) x a e = subst P (some_same y x e) a.0
 
@@ -140,7 +140,7 @@ sized_same field text e = ⊎_elim
 piece_textual : (f : List ℕ) → Piece f → sized f ≡ true → textual f ≡ true
 piece_textual f p s = and_from _ _ s (and_from _ _ p.bare ((utf8_decides f).1 p.text))
 
-write_kept : (fs : List (List ℕ)) (w : ℕ × List ℕ) → All Piece fs → write_group fs ≡ Ok w → KeptWrite w
+write_kept : (fs : List (List ℕ)) (w : ℕ × List ℕ) → AllByRecursion Piece fs → write_group fs ≡ Ok w → KeptWrite w
 write_kept fs w a e =
     let p = no_fault 0 (ruled (numeral 65535) (first fs)) _ w e in
     let q = no_fault 1 (ruled sized_text (first (drop 1 fs))) _ w p.1.1 in
@@ -192,7 +192,7 @@ record Payload (command : Command) (content : Content) : Type 0 where
 pub not_discovery : {P : Type 0} {command : Command} → command_number command < 3 → command ≡ Discovery → P
 not_discovery l e = absurd (omega (arith, ap command_number e))
 
-payload : (direction : Direction) (command : Command) (fs : List (List ℕ)) (content : Content) → All Piece fs → content_by direction command fs ≡ Ok content → Payload command content
+payload : (direction : Direction) (command : Command) (fs : List (List ℕ)) (content : Content) → AllByRecursion Piece fs → content_by direction command fs ≡ Ok content → Payload command content
 payload Request Read fs content a e =
     let p = made_ok read_request (groups 1 index_group 4 1 fs 10) content e in
     let n = groups-few 1 index_group 4 1 fs 10 p.0 p.1.0 in
@@ -264,7 +264,7 @@ headed fs head e =
 pub record Parts (m : Message) : Type 0 where
   pub fields : List (List ℕ)
   pub head : Head
-  pub pieces : All Piece fields
+  pub pieces : AllByRecursion Piece fields
   pub head_is : head_of fields ≡ Ok head
   pub content_is : content_by head.direction head.command (drop 4 fields) ≡ Ok m.content
   pub message_is : m ≡ record { version = head.version; number = head.number; content = m.content }
@@ -272,14 +272,14 @@ pub record Parts (m : Message) : Type 0 where
 pub parts : (bytes : List ℕ) (m : Message) → packet_of bytes ≡ Ok m → Parts m
 parts bytes m e = framed_parts (fields_of bytes) refl e
   where
-    with-content : (fs : List (List ℕ)) (head : Head) → All Piece fs → head_of fs ≡ Ok head → (r : Result Content ℕ) → content_by head.direction head.command (drop 4 fs) ≡ r → message_by head r ≡ Ok m → Parts m
+    with-content : (fs : List (List ℕ)) (head : Head) → AllByRecursion Piece fs → head_of fs ≡ Ok head → (r : Result Content ℕ) → content_by head.direction head.command (drop 4 fs) ≡ r → message_by head r ≡ Ok m → Parts m
     with-content fs head a h (Err field) c e = let z : ◌≡◌ {A = ℕ} 0 1 = cc in absurd (omega arith)
     with-content fs head a h (Ok content) c e =
         let s = ok_same (record { version = head.version; number = head.number; content = content }) m e in
         let t = ap (λ x. x.content) s in
         record { fields = fs; head = head; pieces = a; head_is = h; content_is = c ∙ ap Ok t; message_is = sym s ∙ ap (λ x. record { version = head.version; number = head.number; content = x }) t }
 
-    with-head : (fs : List (List ℕ)) → All Piece fs → (r : Result Head Refusal) → head_of fs ≡ r → after_head (drop 4 fs) r ≡ Ok m → Parts m
+    with-head : (fs : List (List ℕ)) → AllByRecursion Piece fs → (r : Result Head Refusal) → head_of fs ≡ r → after_head (drop 4 fs) r ≡ Ok m → Parts m
     with-head fs a (Err refusal) h e = let z : ◌≡◌ {A = ℕ} 0 1 = cc in absurd (omega arith)
     with-head fs a (Ok head) h e = with-content fs head a h (content_by head.direction head.command (drop 4 fs)) refl e
 
@@ -314,9 +314,9 @@ module _ (bytes : List ℕ) (m : Message) (e : packet_of bytes ≡ Ok m) where
 
 -- the same of what reading gives
 pub read_bounded : (bytes : List ℕ) (r : Result Packet Refusal) → seen r ≡ packet_of bytes → IfOk r (λ p. Bounded (message_of p))
-read_bounded bytes (Err ground) e = tt
+read_bounded bytes (Err reason) e = tt
 read_bounded bytes (Ok p) e = bounded bytes (message_of p) (sym e)
 
 pub read_kept : (bytes : List ℕ) (r : Result Packet Refusal) → seen r ≡ packet_of bytes → IfOk r (λ p. Kept (message_of p).content)
-read_kept bytes (Err ground) e = tt
+read_kept bytes (Err reason) e = tt
 read_kept bytes (Ok p) e = kept bytes (message_of p) (sym e)

@@ -1,6 +1,6 @@
 -- The fields of a packet have no reserved byte, and are UTF-8.
 use Rattle.std.proofs.Common.{◌≡◌, ℕ, ◌+◌, ◌-◌, ◌<◌, ◌≤◌, Bool, true, false, cond, not, ◌||◌, eqb, ltb, leb, List, [], ◌∷◌, ◌++◌, length, get_or, drop, Ok, Err, IsUtf8, Result, sym, refl, ap, ◌∙◌, subst, ⊎_elim, append_assoc, append-nil, arith, length-append}
-use Rattle.std.specs.List.{AllByRecursion as All}
+use Rattle.std.specs.List.{AllByRecursion}
 use Rattle.std.proofs.lemmas.List.{take_at, drop_at, drop-drop, get_or_at}
 use Rattle.std.proofs.lemmas.Bool.{and_parts, and_from, not-true, or_parts, or_from, cases_Bool, eqb-true}
 use Rattle.std.proofs.lemmas.Str.{IsUtf8-take, IsUtf8-drop, IsUtf8-between, IsCharBoundary-before_ascii, IsCharBoundary-after_ascii}
@@ -19,18 +19,18 @@ pub record Piece (f : List ℕ) : Type 0 where
   pub text : IsUtf8 f
 
 -- bytes with no brace are free of reserved bytes, colon by colon
-onto_free : (b : ℕ) (fs : List (List ℕ)) → not (reserved b) ≡ true → All (λ f. free f ≡ true) fs → All (λ f. free f ≡ true) (onto b fs)
+onto_free : (b : ℕ) (fs : List (List ℕ)) → not (reserved b) ≡ true → AllByRecursion (λ f. free f ≡ true) fs → AllByRecursion (λ f. free f ≡ true) (onto b fs)
 onto_free b [] h a = (and_from _ _ h refl, tt)
 onto_free b (f ∷ fs) h a = (and_from _ _ h a.0, a.1)
 
-pub fields_free : (bs : List ℕ) → plain bs ≡ true → All (λ f. free f ≡ true) (fields bs)
+pub fields_free : (bs : List ℕ) → plain bs ≡ true → AllByRecursion (λ f. free f ≡ true) (fields bs)
 fields_free [] h = (refl, tt)
 fields_free (b ∷ bs) h =
     let p = and_parts (not (eqb b 123 || eqb b 125)) (plain bs) h in
     let rest = fields_free bs p.1 in
     step b bs p.0 rest (eqb b 58) refl
   where
-    step : (b : ℕ) (bs : List ℕ) → not (eqb b 123 || eqb b 125) ≡ true → All (λ f. free f ≡ true) (fields bs) → (t : Bool) → eqb b 58 ≡ t → All (λ f. free f ≡ true) (cond t ([] ∷ fields bs) (onto b (fields bs)))
+    step : (b : ℕ) (bs : List ℕ) → not (eqb b 123 || eqb b 125) ≡ true → AllByRecursion (λ f. free f ≡ true) (fields bs) → (t : Bool) → eqb b 58 ≡ t → AllByRecursion (λ f. free f ≡ true) (cond t ([] ∷ fields bs) (onto b (fields bs)))
     step b bs h rest true e = (refl, rest)
     step b bs h rest false e =
         let q = or_parts (eqb b 123) (eqb b 125) (not-true _ h) in
@@ -40,13 +40,13 @@ fields_free (b ∷ bs) h =
 -- the first field is a text behind what stands in front of it, and the others are texts
 abbrev Behind : List ℕ → List (List ℕ) → Type 0
 Behind before [] = Unit {0}
-Behind before (f ∷ fs) = IsUtf8 (before ++ f) × All IsUtf8 fs
+Behind before (f ∷ fs) = IsUtf8 (before ++ f) × AllByRecursion IsUtf8 fs
 
 onto_behind : (before : List ℕ) (b : ℕ) (fs : List (List ℕ)) → 0 < length fs → Behind (before ++ (b ∷ [])) fs → Behind before (onto b fs)
 onto_behind before b [] some h = absurd (omega arith)
 onto_behind before b (f ∷ fs) some h = (subst IsUtf8 (append_assoc before (b ∷ []) f) h.0, h.1)
 
-from_behind : (fs : List (List ℕ)) → Behind [] fs → All IsUtf8 fs
+from_behind : (fs : List (List ℕ)) → Behind [] fs → AllByRecursion IsUtf8 fs
 from_behind [] h = tt
 from_behind (f ∷ fs) h = (h.0, h.1)
 
@@ -72,11 +72,11 @@ texts_behind before (b ∷ bs) u =
     (λ e. rw e (onto_behind before b (fields bs) (fields_some bs) (texts_behind (before ++ (b ∷ [])) bs (subst IsUtf8 (sym (append_assoc before (b ∷ []) bs)) u))))
     (cases_Bool (eqb b 58))
 
-both : (fs : List (List ℕ)) → All (λ f. free f ≡ true) fs → All IsUtf8 fs → All Piece fs
+both : (fs : List (List ℕ)) → AllByRecursion (λ f. free f ≡ true) fs → AllByRecursion IsUtf8 fs → AllByRecursion Piece fs
 both [] a b = tt
 both (f ∷ fs) a b = (record { bare = a.0; text = b.0 }, both fs a.1 b.1)
 
-pub fields_pieces : (bs : List ℕ) → plain bs ≡ true → IsUtf8 bs → All Piece (fields bs)
+pub fields_pieces : (bs : List ℕ) → plain bs ≡ true → IsUtf8 bs → AllByRecursion Piece (fields bs)
 fields_pieces bs p u = both (fields bs) (fields_free bs p) (from_behind (fields bs) (texts_behind [] bs u))
 
 -- what a test that was passed leaves
@@ -104,9 +104,9 @@ inside_plain bs h =
     (and_parts (eqb (get_or bs (length bs - 1) 0) 125) _ q.1).1
 
 -- so are the fields of a packet that has a frame
-pub frame_pieces : (bs : List ℕ) (fs : List (List ℕ)) → fields_of bs ≡ Ok fs → All Piece fs
+pub frame_pieces : (bs : List ℕ) (fs : List (List ℕ)) → fields_of bs ≡ Ok fs → AllByRecursion Piece fs
 frame_pieces bs fs e =
     let a = passed_on (framed bs) (cond (utf8 bs) (Ok (fields (inside bs))) (Err R.NotUtf8)) R.Frame fs (passed_by (ltb 512 (length bs)) R.TooLong _ fs e) in
     let b = passed_on (utf8 bs) (Ok (fields (inside bs))) R.NotUtf8 fs a.1 in
     let same : fields (inside bs) ≡ fs = let o : ◌≡◌ {A = Result (List (List ℕ)) Refusal} (Ok (fields (inside bs))) (Ok fs) = b.1 in cc in
-    subst (All Piece) same (fields_pieces (inside bs) (inside_plain bs a.0) (inside_text bs a.0 b.0))
+    subst (AllByRecursion Piece) same (fields_pieces (inside bs) (inside_plain bs a.0) (inside_text bs a.0 b.0))

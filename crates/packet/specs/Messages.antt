@@ -1,7 +1,7 @@
 -- What a packet says: `packet_of` reads any bytes as a message, or tells the ground on which they are
 -- refused.
 use Rattle.std.specs.Prelude.{◌≡◌, ℕ, ◌<◌, ◌≤◌, List, length, drop, Ok, Err, Result}
-use Rattle.std.specs.List.{AllByRecursion as All}
+use Rattle.std.specs.List.{AllByRecursion}
 use Rattle.protocol.specs.declared.code.Code.{Code}
 use Rattle.protocol.specs.declared.refusal.Refusal.{Refusal}
 use Rattle.protocol.specs.declared.refusal.Refusal.TheVariants as R
@@ -66,12 +66,12 @@ pub record Bounded (m : Message) : Type 0 where
 
 -- each group keeps its rule
 abbrev pub Kept : Content → Type 0
-Kept (read_request is) = All (λ i. i < 65536) is
-Kept (write_request ws) = All KeptWrite ws
+Kept (read_request is) = AllByRecursion (λ i. i < 65536) is
+Kept (write_request ws) = AllByRecursion KeptWrite ws
 Kept discovery_request = Unit {0}
-Kept (read_answer xs) = All KeptReadout xs
+Kept (read_answer xs) = AllByRecursion KeptReadout xs
 Kept (write_answer cs) = Unit {0}
-Kept (discovery_answer xs) = All KeptReadout xs
+Kept (discovery_answer xs) = AllByRecursion KeptReadout xs
 
 -- what comes of a payload that is read
 abbrev pub with_ok : {X Y E : Type 0} → (X → Y) → Result X E → Result Y E

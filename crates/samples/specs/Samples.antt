@@ -33,7 +33,7 @@ pub data Sample : Type 0 where
 -- the number and the field of a refusal
 abbrev pub told : {A : Type 0} → Result A Refusal → Option (ℕ × Option ℕ)
 told (Ok m) = None
-told (Err ground) = Some (refusal_number ground, refusal_field ground)
+told (Err reason) = Some (refusal_number reason, refusal_field reason)
 
 -- what a poll told: nothing due, sent again, given up, or refused
 pub data Outcome : Type 0 where
@@ -43,7 +43,7 @@ pub data Outcome : Type 0 where
   refuses : Outcome
 
 abbrev pub outcome : Result Poll Refusal → Outcome
-outcome (Err ground) = refuses
+outcome (Err reason) = refuses
 outcome (Ok NothingDue) = rests
 outcome (Ok (Again place)) = sends
 outcome (Ok (Failed number)) = fails

@@ -7,6 +7,7 @@ ghost use Rattle.store.specs.Joins.{joined_sound};
 ghost use Rattle.store.specs.House;
 ghost use Rattle.store.specs.Joining;
 ghost use Rattle.stock.specs.Parts.{sound_house, sound_shelf, sound_rows};
+ghost use Rattle.stock.specs.declared.any.AnyStore.TheVariants as A;
 
 use crate::any::AnyStore;
 use protocol::code::Code;

@@ -1,7 +1,7 @@
 -- The messages that come of orders that are allowed are good.
 use Rattle.std.proofs.Common.{◌≡◌, ℕ, ◌<◌, ◌≤◌, true, ◌&&◌, eqb, leb, List, [], ◌∷◌, map, length, is_some, Some, None, Ok, Err, Option, Result, unwrap_or, refl, arith}
 use Rattle.std.specs.Option.{option_map}
-use Rattle.std.specs.List.{AllByRecursion as All}
+use Rattle.std.specs.List.{AllByRecursion}
 use Rattle.std.proofs.lemmas.List.{length-map}
 use Rattle.std.proofs.lemmas.Bool.{and_parts, leb-true, eqb-false, not-true, false≢true}
 use Rattle.protocol.specs.Held.{text_bytes}
@@ -32,7 +32,7 @@ goes_write : (version : Version) → Goes version Write
 goes_write V10 = tt
 goes_write V11 = tt
 
-pub good_indices : (n : ℕ) (is : List ℕ) → n < 65536 → All (λ i. i < 65536) is → counted is ≡ true → Good (asked n (read_request is))
+pub good_indices : (n : ℕ) (is : List ℕ) → n < 65536 → AllByRecursion (λ i. i < 65536) is → counted is ≡ true → Good (asked n (read_request is))
 good_indices n is h a some =
     let p = counted_few is some in
     good (asked n (read_request is)) (record { number = h; some = p.0; few = p.1; both = not_discovery (omega arith) }) tt a
@@ -47,13 +47,13 @@ change_textual : (o : Option Text) → is_some o ≡ true → textual (unwrap_or
 change_textual None h = absurd (false≢true h)
 change_textual (Some t) h = t.plain
 
-kept_changes : (cs : List Change) → all_texts cs ≡ true → All (λ w. w.0 < 65536) (map change_of cs) → All KeptWrite (map change_of cs)
+kept_changes : (cs : List Change) → all_texts cs ≡ true → AllByRecursion (λ w. w.0 < 65536) (map change_of cs) → AllByRecursion KeptWrite (map change_of cs)
 kept_changes [] t a = tt
 kept_changes (c ∷ cs) t a =
     let p = and_parts (is_some c.text) (all_texts cs) t in
     ((a.0, change_textual c.text p.0), kept_changes cs p.1 a.1)
 
-pub good_changes : (n : ℕ) (cs : List Change) → n < 65536 → All (λ w. w.0 < 65536) (map change_of cs) → changes_allowed cs ≡ true → Good (asked n (write_request (map change_of cs)))
+pub good_changes : (n : ℕ) (cs : List Change) → n < 65536 → AllByRecursion (λ w. w.0 < 65536) (map change_of cs) → changes_allowed cs ≡ true → Good (asked n (write_request (map change_of cs)))
 good_changes n cs h a ok =
     let q = and_parts (counted cs) (all_texts cs) ok in
     let p = counted_few cs q.0 in
@@ -67,13 +67,13 @@ kept_reading : (x : Result Value Code) → told x ≡ true → Readable (readout
 kept_reading (Ok v) t r = r
 kept_reading (Err code) t r = eqb-false (code_number code) 0 (not-true (eqb (code_number code) 0) t)
 
-kept_readings : (xs : List (Result Value Code)) → all_told xs ≡ true → All Readable (map readout_of xs) → All KeptReadout (map readout_of xs)
+kept_readings : (xs : List (Result Value Code)) → all_told xs ≡ true → AllByRecursion Readable (map readout_of xs) → AllByRecursion KeptReadout (map readout_of xs)
 kept_readings [] t a = tt
 kept_readings (x ∷ xs) t a =
     let p = and_parts (told x) (all_told xs) t in
     (kept_reading x p.0 a.0, kept_readings xs p.1 a.1)
 
-pub good_readings : (version : Version) (n : ℕ) (xs : List (Result Value Code)) → n < 65536 → All Readable (map readout_of xs) → readings_allowed xs ≡ true → Good (answered version n (read_answer (map readout_of xs)))
+pub good_readings : (version : Version) (n : ℕ) (xs : List (Result Value Code)) → n < 65536 → AllByRecursion Readable (map readout_of xs) → readings_allowed xs ≡ true → Good (answered version n (read_answer (map readout_of xs)))
 good_readings version n xs h a ok =
     let q = and_parts (counted xs) (all_told xs) ok in
     let p = counted_few xs q.0 in

@@ -1,7 +1,7 @@
 -- What is written reads back: heads and groups.
 use Rattle.std.proofs.Common.{◌≡◌, ℕ, zero, suc, ◌+◌, ◌-◌, ◌<◌, ◌≤◌, true, List, [], ◌∷◌, ◌++◌, length, drop, is_some, Some, None, Ok, Err, decimal, Option, Result, refl, ap, ◌∙◌, arith}
 use Rattle.std.specs.Option.{option_map}
-use Rattle.std.specs.List.{flat_map, AllByRecursion as All}
+use Rattle.std.specs.List.{flat_map, AllByRecursion}
 use Rattle.std.proofs.lemmas.Fmt.{decimal_digit}
 use Rattle.std.proofs.lemmas.Bool.{eq-eqb, false≢true}
 use Rattle.protocol.specs.Texts.{sized}
@@ -34,7 +34,7 @@ pub record Reads {X : Type 0} (width : ℕ) (group : List (List ℕ) → Result 
   pub is : (rest : List (List ℕ)) → group (f x ++ rest) ≡ Ok x
   pub over : (rest : List (List ℕ)) → drop width (f x ++ rest) ≡ rest
 
-pub groups_back : {X : Type 0} (width : ℕ) (group : List (List ℕ) → Result X ℕ) (f : X → List (List ℕ)) → group [] ≡ Err 0 → (k least most : ℕ) (xs : List X) → All (Reads width group f) xs → least ≤ length xs → length xs ≤ most → groups width group k least (flat_map f xs) most ≡ Ok xs
+pub groups_back : {X : Type 0} (width : ℕ) (group : List (List ℕ) → Result X ℕ) (f : X → List (List ℕ)) → group [] ≡ Err 0 → (k least most : ℕ) (xs : List X) → AllByRecursion (Reads width group f) xs → least ≤ length xs → length xs ≤ most → groups width group k least (flat_map f xs) most ≡ Ok xs
 groups_back width group f none k least most [] h low high = rw (eq-eqb least 0 (omega arith))
 groups_back width group f none k least zero (x ∷ xs) h low high = absurd (omega arith)
 groups_back width group f none k least (suc most) (x ∷ xs) h low high =

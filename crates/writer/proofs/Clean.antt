@@ -1,6 +1,6 @@
 -- Fields that a packet can hold: no reserved byte, and UTF-8.
 use Rattle.std.proofs.Common.{◌≡◌, ℕ, zero, suc, ◌+◌, ◌-◌, ◌<◌, ◌≤◌, true, false, not, ◌||◌, eqb, List, [], ◌∷◌, ◌++◌, length, get_or, Ok, IsUtf8, refl, ap, ◌∙◌, append-nil, arith, length-append}
-use Rattle.std.specs.List.{flat_map, AllByRecursion as All}
+use Rattle.std.specs.List.{flat_map, AllByRecursion}
 use Rattle.std.proofs.lemmas.Str.Ascii.{IsAscii-cons, IsAscii-nil}
 use Rattle.std.proofs.lemmas.List.{take_at, get_or_at}
 use Rattle.std.proofs.lemmas.Str.{IsUtf8-append, IsUtf8-from_ascii, IsUtf8-nil}
@@ -42,7 +42,7 @@ bare_colon (b ∷ bs) h zero l e = let p = and_parts (not (reserved b)) (free bs
 bare_colon (b ∷ bs) h (suc i) l e = let p = and_parts (not (reserved b)) (free bs) h in bare_colon bs p.1 i (omega arith) e
 
 -- fields that are parted by colons are the fields of what comes of it
-pub fields_parted : (f : List ℕ) (fs : List (List ℕ)) → All Clean (f ∷ fs) → fields (parted (f ∷ fs)) ≡ f ∷ fs
+pub fields_parted : (f : List ℕ) (fs : List (List ℕ)) → AllByRecursion Clean (f ∷ fs) → fields (parted (f ∷ fs)) ≡ f ∷ fs
 fields_parted f [] h = ap fields (append-nil f) ∙ fields_last f (bare_colon f h.0.bare)
 fields_parted f (g ∷ fs) h = fields_more f (parted (g ∷ fs)) (bare_colon f h.0.bare) ∙ ap (λ l. f ∷ l) (fields_parted g fs h.1)
 
@@ -50,22 +50,22 @@ plain_append : (xs ys : List ℕ) → plain xs ≡ true → plain ys ≡ true �
 plain_append [] ys a b = b
 plain_append (x ∷ xs) ys a b = let p = and_parts (not (eqb x 123 || eqb x 125)) (plain xs) a in and_from _ _ p.0 (plain_append xs ys p.1 b)
 
-plain_colons : (fs : List (List ℕ)) → All Clean fs → plain (flat_map colon fs) ≡ true
+plain_colons : (fs : List (List ℕ)) → AllByRecursion Clean fs → plain (flat_map colon fs) ≡ true
 plain_colons [] h = refl
 plain_colons (f ∷ fs) h = plain_append f (flat_map colon fs) (plain_bare f h.0.bare) (plain_colons fs h.1)
 
-pub plain_parted : (fs : List (List ℕ)) → All Clean fs → plain (parted fs) ≡ true
+pub plain_parted : (fs : List (List ℕ)) → AllByRecursion Clean fs → plain (parted fs) ≡ true
 plain_parted [] h = refl
 plain_parted (f ∷ fs) h = plain_append f (flat_map colon fs) (plain_bare f h.0.bare) (plain_colons fs h.1)
 
 one : (b : ℕ) → b < 128 → IsUtf8 (b ∷ [])
 one b h = IsUtf8-from_ascii (b ∷ []) (IsAscii-cons b [] h IsAscii-nil)
 
-text_colons : (fs : List (List ℕ)) → All Clean fs → IsUtf8 (flat_map colon fs)
+text_colons : (fs : List (List ℕ)) → AllByRecursion Clean fs → IsUtf8 (flat_map colon fs)
 text_colons [] h = IsUtf8-nil
 text_colons (f ∷ fs) h = IsUtf8-append (58 ∷ []) (f ++ flat_map colon fs) (one 58 (omega arith)) (IsUtf8-append f (flat_map colon fs) h.0.text (text_colons fs h.1))
 
-pub text_parted : (fs : List (List ℕ)) → All Clean fs → IsUtf8 (parted fs)
+pub text_parted : (fs : List (List ℕ)) → AllByRecursion Clean fs → IsUtf8 (parted fs)
 text_parted [] h = IsUtf8-nil
 text_parted (f ∷ fs) h = IsUtf8-append f (flat_map colon fs) h.0.text (text_colons fs h.1)
 

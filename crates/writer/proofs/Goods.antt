@@ -4,7 +4,7 @@
 --     good-size     and has at most 485 bytes
 --     good          a message is good if its groups keep their rules
 use Rattle.std.proofs.Common.{◌≡◌, ℕ, ◌*◌, ◌<◌, ◌≤◌, Bool, true, List, [], ◌∷◌, ◌++◌, length, take, drop, pos, is_some, Some, None, Ok, Err, codes, decimal, Option, Result, sym, refl, ap, ◌∙◌, append_assoc, arith, length-append, rules}
-use Rattle.std.specs.List.{flat_map, AllByRecursion as All}
+use Rattle.std.specs.List.{flat_map, AllByRecursion}
 use Rattle.std.proofs.ByRecursion.{IsAscii-from_all, All-append, All-weaker}
 use Rattle.std.proofs.lemmas.Fmt.{length-decimal-le}
 use Rattle.std.proofs.lemmas.List.{take_at}
@@ -40,11 +40,11 @@ use Rattle.packet.specs.Groups.{index_group, write_group, code_group, reading_gr
 pub record Good (m : Message) : Type 0 where
   pub number : m.number < 65536
   pub goes : Goes m.version (command_of m.content)
-  pub clean : All Clean (content_fields m.content)
+  pub clean : AllByRecursion Clean (content_fields m.content)
   pub reads : content_by (direction_of m.content) (command_of m.content) (content_fields m.content) ≡ Ok m.content
   pub small : length (flat_map colon (content_fields m.content)) ≤ 470
 
-pub clean_ascii : (f : List ℕ) → free f ≡ true → All (λ b. b < 128) f → Clean f
+pub clean_ascii : (f : List ℕ) → free f ≡ true → AllByRecursion (λ b. b < 128) f → Clean f
 clean_ascii f b a = record { bare = b; text = IsUtf8-from_ascii f (IsAscii-from_all f a) }
 
 pub clean_decimal : (n : ℕ) → n < 65536 → Clean (decimal n)
@@ -64,7 +64,7 @@ clean_command Write = clean_decimal 2 (omega arith)
 clean_command Discovery = clean_decimal 3 (omega arith)
 
 -- the fields of the head
-head_clean : (version : Version) (direction : Direction) (n : ℕ) (command : Command) → n < 65536 → All Clean (head_fields version direction n command)
+head_clean : (version : Version) (direction : Direction) (n : ℕ) (command : Command) → n < 65536 → AllByRecursion Clean (head_fields version direction n command)
 head_clean version direction n command h = (clean_version version, (clean_direction direction, (clean_decimal n h, (clean_command command, tt))))
 
 pub five : (n : ℕ) → n < 65536 → length (decimal n) ≤ 5
@@ -117,7 +117,7 @@ module _ (m : Message) (g : Good m) where
   pub good-size : length (bytes_of m) ≤ 485
   good-size = omega (arith, parted-size, length-append (parted (message_fields m)) (125 ∷ []))
 
-  all-clean : All Clean (message_fields m)
+  all-clean : AllByRecursion Clean (message_fields m)
   all-clean = All-append Clean (head_fields m.version (direction_of m.content) m.number (command_of m.content)) (content_fields m.content) (head_clean m.version (direction_of m.content) m.number (command_of m.content) g.number) g.clean
 
   pub good-back : packet_of (bytes_of m) ≡ Ok m
@@ -132,20 +132,20 @@ module _ (m : Message) (g : Good m) where
 
 -- what is to be shown of one group
 pub record Fine {X : Type 0} (width : ℕ) (group : List (List ℕ) → Result X ℕ) (f : X → List (List ℕ)) (x : X) : Type 0 where
-  pub clean : All Clean (f x)
+  pub clean : AllByRecursion Clean (f x)
   pub reads : Reads width group f x
   pub small : length (flat_map colon (f x)) ≤ 47
 
 module _ {X : Type 0} (width : ℕ) (group : List (List ℕ) → Result X ℕ) (f : X → List (List ℕ)) where
-  pub fine-clean : (xs : List X) → All (Fine width group f) xs → All Clean (flat_map f xs)
+  pub fine-clean : (xs : List X) → AllByRecursion (Fine width group f) xs → AllByRecursion Clean (flat_map f xs)
   fine-clean [] h = tt
   fine-clean (x ∷ xs) h = All-append Clean (f x) (flat_map f xs) h.0.clean (fine-clean xs h.1)
 
-  pub fine-reads : (xs : List X) → All (Fine width group f) xs → All (Reads width group f) xs
+  pub fine-reads : (xs : List X) → AllByRecursion (Fine width group f) xs → AllByRecursion (Reads width group f) xs
   fine-reads [] h = tt
   fine-reads (x ∷ xs) h = (h.0.reads, fine-reads xs h.1)
 
-  pub fine-small : (xs : List X) → All (Fine width group f) xs → length (flat_map colon (flat_map f xs)) ≤ 47 * length xs
+  pub fine-small : (xs : List X) → AllByRecursion (Fine width group f) xs → length (flat_map colon (flat_map f xs)) ≤ 47 * length xs
   fine-small [] h = omega arith
   fine-small (x ∷ xs) h = omega (arith, ap length (joined_append colon (f x) (flat_map f xs)), length-append (flat_map colon (f x)) (flat_map colon (flat_map f xs)), h.0.small, fine-small xs h.1)
 
@@ -218,18 +218,18 @@ fine_readout (lacking code) h =
       small = omega (arith, code_one code, length-append (decimal (code_number code)) (flat_map colon (codes "Nil" ∷ codes "0" ∷ [])));
     }
 
-all_of : {X : Type 0} (P : X → Type 0) → ((x : X) → P x) → (xs : List X) → All P xs
+all_of : {X : Type 0} (P : X → Type 0) → ((x : X) → P x) → (xs : List X) → AllByRecursion P xs
 all_of P h [] = tt
 all_of P h (x ∷ xs) = (h x, all_of P h xs)
 
 -- what is to be shown of a payload
 record Payload (content : Content) : Type 0 where
-  clean : All Clean (content_fields content)
+  clean : AllByRecursion Clean (content_fields content)
   reads : content_by (direction_of content) (command_of content) (content_fields content) ≡ Ok content
   small : length (flat_map colon (content_fields content)) ≤ 470
 
 -- groups that are fine, and few
-module _ {X : Type 0} (width : ℕ) (group : List (List ℕ) → Result X ℕ) (f : X → List (List ℕ)) (none : group [] ≡ Err 0) (xs : List X) (fine : All (Fine width group f) xs) where
+module _ {X : Type 0} (width : ℕ) (group : List (List ℕ) → Result X ℕ) (f : X → List (List ℕ)) (none : group [] ≡ Err 0) (xs : List X) (fine : AllByRecursion (Fine width group f) xs) where
   fine_back : (least most : ℕ) → least ≤ length xs → length xs ≤ most → groups width group 4 least (flat_map f xs) most ≡ Ok xs
   fine_back least most low high = groups_back width group f none 4 least most xs (fine-reads width group f xs fine) low high
 

@@ -3,7 +3,7 @@
 --     rewrote          what is to be shown of a packet that was written again
 use Rattle.std.proofs.Common.{◌≡◌, ℕ, ◌≤◌, true, cond, ltb, List, [], ◌∷◌, map, length, take, is_some, Some, None, Ok, Option, unwrap_or, sym, refl, ap, ◌∙◌, subst, arith}
 use Rattle.std.specs.Option.{option_map}
-use Rattle.std.specs.List.{AllByRecursion as All}
+use Rattle.std.specs.List.{AllByRecursion}
 use Rattle.std.proofs.ByRecursion.{All-map, All-weaker}
 use Rattle.std.proofs.lemmas.List.{length-map}
 use Rattle.std.proofs.lemmas.Bool.{false≢true}
@@ -44,11 +44,11 @@ once_readout : (x : Readout) → KeptReadout x → again_readout (again_readout 
 once_readout (found kind text) h = ap (λ o. found kind (unwrap_or (option_map spelled o) [])) (respelled_same kind text h)
 once_readout (lacking code) h = refl
 
-map_twice : {X Y : Type 0} (P : X → Type 0) (f : X → X) (g : X → Y) → ((x : X) → P x → g (f x) ≡ g x) → (xs : List X) → All P xs → map g (map f xs) ≡ map g xs
+map_twice : {X Y : Type 0} (P : X → Type 0) (f : X → X) (g : X → Y) → ((x : X) → P x → g (f x) ≡ g x) → (xs : List X) → AllByRecursion P xs → map g (map f xs) ≡ map g xs
 map_twice P f g h [] a = refl
 map_twice P f g h (x ∷ xs) a = (λ i. h x a.0 i ∷ map_twice P f g h xs a.1 i)
 
-kept_readouts : (xs : List Readout) → All KeptReadout xs → All KeptReadout (map again_readout xs)
+kept_readouts : (xs : List Readout) → AllByRecursion KeptReadout xs → AllByRecursion KeptReadout (map again_readout xs)
 kept_readouts xs a = All-map KeptReadout again_readout xs (All-weaker KeptReadout (λ x. KeptReadout (again_readout x)) kept_readout xs a)
 
 -- the same of all groups

@@ -74,7 +74,7 @@ meant m = record { version = m.version; direction = direction_of m.content; numb
 
 -- what comes of a packet that was read, and of one that was not
 abbrev pub rewritten_as : Result Message Refusal → List ℕ → Writing
-rewritten_as (Err ground) row = refused ground row
+rewritten_as (Err reason) row = refused reason row
 rewritten_as (Ok m) row = at_start (bytes_of (again m)) row
 
 -- 2 where the row is short, then what reading the packet refuses, or else the message again

@@ -12,7 +12,7 @@ pub record Writing : Type 0 where
 
 -- the ground, and the row as it was
 abbrev pub refused : Refusal → List ℕ → Writing
-refused ground row = record { told = Err ground; row = row }
+refused reason row = record { told = Err reason; row = row }
 
 -- the packet at the row's start, and the rest of the row as it was
 abbrev pub at_start : List ℕ → List ℕ → Writing

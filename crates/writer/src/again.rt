@@ -1,6 +1,6 @@
 //! Writing again what was read: the same message, with each value of an answer in its one spelling.
 ghost use Rattle.std.specs.Prelude.{◌≡◌, ℕ, ◌≤◌, List, map, take, IfOk};
-ghost use Rattle.std.specs.List.{flat_map, AllByRecursion as All};
+ghost use Rattle.std.specs.List.{flat_map, AllByRecursion};
 ghost use Rattle.packet.specs.Cursors.{indices_ahead, writes_ahead, codes_ahead, readings_ahead, readout_of};
 ghost use Rattle.packet.specs.Groups.{KeptReadout};
 ghost use Rattle.packet.specs.Messages.{packet_of, with_ok, Kept};
@@ -64,7 +64,7 @@ fn put_reading_again(row: &mut [u8], at: usize, reading: Reading<'_>) -> usize
 
 /// Puts the groups of a read or Discovery answer.
 fn put_readings_again(row: &mut [u8], mut at: usize, mut readings: Readings<'_>) -> usize
-    ensures { All KeptReadout (readings_ahead readings.entry) → Puts row.old at (flat_map colon (flat_map readout_fields (map again_readout (readings_ahead readings.entry)))) row.new result }
+    ensures { AllByRecursion KeptReadout (readings_ahead readings.entry) → Puts row.old at (flat_map colon (flat_map readout_fields (map again_readout (readings_ahead readings.entry)))) row.new result }
 {
     while let Some(reading) = readings.next_reading() {
         at = put_reading_again(row, at, reading);

@@ -1,6 +1,6 @@
 //! Putting fields and groups into a row, one behind the other. Each call tells where it ends.
 ghost use Rattle.std.specs.Prelude.{◌<◌, [], ◌∷◌, map, decimal};
-ghost use Rattle.std.specs.List.{flat_map, AllByRecursion as All};
+ghost use Rattle.std.specs.List.{flat_map, AllByRecursion};
 ghost use Rattle.writer.specs.Bytes.{colon, parted, head_fields, index_fields, write_fields, code_fields, readout_fields};
 ghost use Rattle.writer.specs.Orders.{change_of, readout_of, Readable};
 ghost use Rattle.writer.specs.Puts.{Puts};
@@ -75,7 +75,7 @@ fn put_change(row: &mut [u8], at: usize, change: &Change) -> usize
 /// Puts the groups of a write request.
 pub(crate) fn put_changes(row: &mut [u8], mut at: usize, changes: &[Change]) -> usize
     ensures puts { Puts row.old at (flat_map colon (flat_map write_fields (map change_of changes.now))) row.new result }
-    ensures small { All (λ w. w.0 < 65536) (map change_of changes.now) }
+    ensures small { AllByRecursion (λ w. w.0 < 65536) (map change_of changes.now) }
 {
     for change in changes {
         at = put_change(row, at, change);
@@ -119,7 +119,7 @@ pub(crate) fn put_reading(row: &mut [u8], at: usize, reading: Result<Value, Code
 /// Puts the groups of a read answer.
 pub(crate) fn put_readings(row: &mut [u8], mut at: usize, readings: &[Result<Value, Code>]) -> usize
     ensures puts { Puts row.old at (flat_map colon (flat_map readout_fields (map readout_of readings.now))) row.new result }
-    ensures reads { All Readable (map readout_of readings.now) }
+    ensures reads { AllByRecursion Readable (map readout_of readings.now) }
 {
     for reading in readings {
         at = put_reading(row, at, *reading);

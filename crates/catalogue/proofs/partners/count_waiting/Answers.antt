@@ -3,7 +3,7 @@ use Rattle.std.proofs.lemmas.List.{at_drop_more, at_drop_all}
 use Rattle.std.proofs.lemmas.Bool.{cond-true, cond-false}
 use Rattle.catalogue.specs.Stations.{waiting_in, newcomer}
 use Rattle.catalogue.proofs.partners.count_waiting.Goals as goal
-use Rattle.catalogue.proofs.partners.count_waiting.Goals.{then-is-some, else-is-some}
+use Rattle.catalogue.proofs.partners.count_waiting.Goals.{then-is_some, else-is_some}
 
 pub loop-partner-preserved : goal.loop-partner-preserved
 loop-partner-preserved c =
@@ -11,8 +11,8 @@ loop-partner-preserved c =
     let i = c.loop-partner.partner-index in
     let e : waiting_in (drop i ps) ≡ cond (is_some (get_or ps i (newcomer 0)).waiting) 1 0 + waiting_in (drop (i + 1) ps) = at_drop_more waiting_in ps i (newcomer 0) c.loop-partner-test.true in
     elim c.if-is_some.branch [
-      | then-is-some w ↦ let t : ◌≡◌ {A = ℕ} (cond (is_some (get_or ps i (newcomer 0)).waiting) 1 0) 1 = cond-true _ 1 0 (sym w.if-is_some.ensures) in (omega (arith, w.count-is), omega (arith, w.count-is))
-      | else-is-some w ↦ let t : ◌≡◌ {A = ℕ} (cond (is_some (get_or ps i (newcomer 0)).waiting) 1 0) 0 = cond-false _ 1 0 (sym w.if-is_some.ensures) in (omega (arith, w.count-is), omega (arith, w.count-is))
+      | then-is_some w ↦ let t : ◌≡◌ {A = ℕ} (cond (is_some (get_or ps i (newcomer 0)).waiting) 1 0) 1 = cond-true _ 1 0 (sym w.if-is_some.ensures) in (omega (arith, w.count-is), omega (arith, w.count-is))
+      | else-is_some w ↦ let t : ◌≡◌ {A = ℕ} (cond (is_some (get_or ps i (newcomer 0)).waiting) 1 0) 0 = cond-false _ 1 0 (sym w.if-is_some.ensures) in (omega (arith, w.count-is), omega (arith, w.count-is))
     ]
 
 pub returns : goal.returns

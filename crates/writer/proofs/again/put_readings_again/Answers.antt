@@ -1,5 +1,5 @@
 use Rattle.std.proofs.Common.{sym, ap, subst}
-use Rattle.std.specs.List.{flat_map, AllByRecursion as All}
+use Rattle.std.specs.List.{flat_map, AllByRecursion}
 use Rattle.packet.specs.Cursors.{readout_of, readings_ahead}
 use Rattle.packet.specs.Groups.{KeptReadout}
 use Rattle.writer.specs.Again.{again_readout}
@@ -15,7 +15,7 @@ loop-reading-preserved c k =
     let ys = readings_ahead c.next_reading.new.self in
     let x = readout_of c.in-Some.reading in
     let inv = c.loop-reading.invariant k in
-    let kept = subst (All KeptReadout) (first_is xs ys x told.value told.after) inv.0 in (
+    let kept = subst (AllByRecursion KeptReadout) (first_is xs ys x told.value told.after) inv.0 in (
       kept.1,
       left-more (λ x. readout_fields (again_readout x)) xs (flat_map colon (flat_map (λ x. readout_fields (again_readout x)) (readings_ahead c.args.readings))) inv.1
           ys x told.value told.after (c.put_reading_again-at.ensures kept.0),

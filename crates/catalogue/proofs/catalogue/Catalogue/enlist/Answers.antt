@@ -10,7 +10,11 @@ use Rattle.catalogue.proofs.catalogue.Catalogue.enlist.Goals as goal
 pub invariant_of-self : goal.invariant_of-self
 invariant_of-self c =
     let s = c.args.self.now in
-    (length-set s.partners s.enlisted (newcomer c.args.address) ∙ s.room, (omega arith, (subst Kept (sym (grown_at s c.args.address c.if-k-ge16.false)) (kept_enlisted (station_of s) c.args.address s.kept), tt)))
+    record {
+      room = length-set s.partners s.enlisted (newcomer c.args.address) ∙ s.room;
+      within = omega arith;
+      kept = subst Kept (sym (grown_at s c.args.address c.if-k-ge16.false)) (kept_enlisted (station_of s) c.args.address s.kept);
+    }
 
 pub returns : goal.returns
 returns c =

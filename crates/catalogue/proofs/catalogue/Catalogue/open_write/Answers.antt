@@ -27,10 +27,10 @@ returns-in_err-free c =
     let slab = c.args.slab.now in
     let xs = c.args.changes.now in
     let p = err_from_is_err_and c.from_residual.result c.from_residual.ensures.1 in
-    let ground = c.in_err-free.field-0.0 in
-    let r : c.from_residual.result ≡ Err ground = p.1 ∙ ap Err p.2 in
-    let j : judged s (length slab) c.args.partner c.args.time (changes_allowed xs) ≡ Err ground = ap (λ b. judged s (length slab) c.args.partner c.args.time b) (sym c.changes_allowed-allowed.ensures) ∙ sym c.free_partner.ensures.answer ∙ c.in_err-free.was in
-    let e = opening-refused s slab c.args.partner c.args.time (changes_allowed xs) (write_request (map change_of xs)) c.from_residual.result ground r j in
+    let reason = c.in_err-free.field-0.0 in
+    let r : c.from_residual.result ≡ Err reason = p.1 ∙ ap Err p.2 in
+    let j : judged s (length slab) c.args.partner c.args.time (changes_allowed xs) ≡ Err reason = ap (λ b. judged s (length slab) c.args.partner c.args.time b) (sym c.changes_allowed-allowed.ensures) ∙ sym c.free_partner.ensures.answer ∙ c.in_err-free.was in
+    let e = opening-refused s slab c.args.partner c.args.time (changes_allowed xs) (write_request (map change_of xs)) c.from_residual.result reason r j in
     let f = fulfilled s slab c.args.partner c.args.time xs (omega (arith, listed c.args.self.now)) _ e in
     record {
       answer = ap (λ x. x.answer) e;

@@ -10,7 +10,11 @@ offset_bounds-self-k c = omega (arith, listed c.args.self.now)
 pub invariant_of-self : goal.invariant_of-self
 invariant_of-self c =
     let s = c.args.self.now in
-    (length-set s.partners c.args.k c.args.partner ∙ s.room, (s.within, (subst Kept (sym (put_at s c.args.k c.args.partner c.args.time c.args.counts c.requires.0)) c.requires.1, tt)))
+    record {
+      room = length-set s.partners c.args.k c.args.partner ∙ s.room;
+      within = s.within;
+      kept = subst Kept (sym (put_at s c.args.k c.args.partner c.args.time c.args.counts c.requires.0)) c.requires.1;
+    }
 
 pub returns : goal.returns
 returns c = put_at c.args.self.now c.args.k c.args.partner c.args.time c.args.counts c.requires.0

@@ -5,12 +5,12 @@ use Rattle.mount_box.specs.Views.{box_of}
 use Rattle.mount_box.proofs.Served.{found_out}
 use Rattle.mount_box.proofs.mount.MountBox.respond.Goals as goal
 
-pub returns-in-ok-length : goal.returns-in-ok-length
-returns-in-ok-length g c =
+pub returns-in_ok-length-in-DiscoveryRequest : goal.returns-in_ok-length-in-DiscoveryRequest
+returns-in_ok-length-in-DiscoveryRequest g c =
     let b = box_of g.S.Store.meaning c.args.self.now c.args.slab.now c.args.reply.now in
-    let told = c.in-ok-length.ensures in
+    let told = c.in_ok-length-in-DiscoveryRequest.ensures in
     let d = ap content_of c.in-DiscoveryRequest.is in
     record {
-      responded = found_out b c.args.sender (message_of c.args.request) c.in-ok-length.length c.carry_out.new.row (g.S.Store.meaning c.carry_out.new.store) d told.answer told.after;
+      responded = found_out b c.args.sender (message_of c.args.request) c.in_ok-length-in-DiscoveryRequest.length c.carry_out.new.row (g.S.Store.meaning c.carry_out.new.store) d told.answer told.after;
       sixteen = λ o. absurd (subst Orders d o);
     }
