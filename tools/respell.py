@@ -22,7 +22,7 @@ TOKEN = re.compile(PLAIN + "+")
 QUOTED = re.compile(r"\"(?:[^\"\\\n]|\\.)*\"")
 HEADED = re.compile(rf"^(?:(?:abbrev|unfoldable|pub|private|opaque)\s+)*(?:record|data)\s+({PLAIN}+)")
 NAMED = re.compile(rf"^(?:(?:abbrev|unfoldable|pub|private|opaque)\s+)*({PLAIN}+)(?:\s+[({{].*|\s*):\s")
-INNER = re.compile(rf"^  (?:pub )?({PLAIN}+)(?:\s+[({{].*|\s*):\s")
+INNER = re.compile(rf"^ +(?:(?:abbrev|unfoldable|pub|private|opaque)\s+)*({PLAIN}+)(?:\s+[({{].*|\s*):\s")
 
 
 # What would meet a name of the library in one file, and its spelling.
@@ -35,20 +35,17 @@ def declaring(crate: Path) -> list[Path]:
 
 
 def declared(text: str) -> set[str]:
-    """The names that a file declares: types, words, constructors and fields."""
+    """The names that a file declares: types, words, constructors and fields, in nested modules too."""
     names: set[str] = set()
-    inside = False
     for line in text.split("\n"):
-        head = HEADED.match(line)
+        head = HEADED.match(line.strip())
         if head:
             names.add(head[1])
-            inside = True
         elif line.startswith(" "):
             inner = INNER.match(line)
-            if inside and inner:
+            if inner:
                 names.add(inner[1])
         elif line:
-            inside = False
             word = NAMED.match(line)
             if word and " goal." not in line and not line.startswith(("--", "use ", "mod ", "pub use ", "pub mod ")):
                 names.add(word[1])

@@ -55,7 +55,7 @@ fn fixed_text(word: &[u8]) -> Result<(&[u8], bool), Trouble>
     let Ok((text, mark)) = cut(word, b':') else {
         return Ok((word, false));
     };
-    if mark == b"fixed" {
+    if mark == b"fixed".as_slice() {
         Ok((text, true))
     } else {
         Err(Trouble::NotUnderstood)

@@ -117,8 +117,8 @@ small s h l =
 
 module _ (s : Station) (k time : ℕ) (p : Partner) (h : Kept s) where
   -- a transaction is opened
-  pub kept-opened : Free s k time p → (command : Command) (count n : ℕ) → Kept (placed s k (asked_by s.timing time command count n p) time (count_opened s.counts))
-  kept-opened f command count n =
+  pub kept_opened : Free s k time p → (command : Command) (count n : ℕ) → Kept (placed s k (asked_by s.timing time command count n p) time (count_opened s.counts))
+  kept_opened f command count n =
       let t = ranged s.timing h.0.0 in
       let old : (partner s k).waiting ≡ None = subst (λ (x : Partner). x.waiting ≡ None) f.found.here f.none in
       let next : p.next ≡ (partner s k).next = ap (λ x. x.next) f.found.here in
@@ -129,47 +129,47 @@ module _ (s : Station) (k time : ℕ) (p : Partner) (h : Kept s) where
       (omega arith) (omega arith) (omega arith)
 
   module _ (f : Found s k time p) (w : Waiting) (e : p.waiting ≡ Some w) where
-    waiting-is : (partner s k).waiting ≡ Some w
-    waiting-is = subst (λ (x : Partner). x.waiting ≡ Some w) f.here e
+    waiting_is : (partner s k).waiting ≡ Some w
+    waiting_is = subst (λ (x : Partner). x.waiting ≡ Some w) f.here e
 
-    next-is : p.next ≡ (partner s k).next
-    next-is = ap (λ x. x.next) f.here
+    next_is : p.next ≡ (partner s k).next
+    next_is = ap (λ x. x.next) f.here
 
     -- it is sent again
-    pub kept-repeated : spent s.timing w ≡ false → Kept (placed s k (with_waiting p (longer time w)) time (count_repeated s.counts))
-    kept-repeated g =
+    pub kept_repeated : spent s.timing w ≡ false → Kept (placed s k (with_waiting p (longer time w)) time (count_repeated s.counts))
+    kept_repeated g =
         let parts = or_parts (leb s.timing.repeats w.repeats) _ g in
         let room : w.repeats < s.timing.repeats = leb-false _ _ parts.0 in
         let long : 2 * w.interval ≤ s.timing.longest = ltb-false _ _ parts.1 in
-        let one : waits (partner s k) ≡ 1 = ap (λ x. cond (is_some x) 1 0) waiting-is in
-        let r : repeats_in (partner s k).waiting ≡ w.repeats = ap repeats_in waiting-is in
-        let next = next-is in
+        let one : waits (partner s k) ≡ 1 = ap (λ x. cond (is_some x) 1 0) waiting_is in
+        let r : repeats_in (partner s k).waiting ≡ w.repeats = ap repeats_in waiting_is in
+        let next = next_is in
         kept_placed s k (with_waiting p (longer time w)) time (count_repeated s.counts) h f.known f.timely
         (omega (arith, (h.1 k).0), omega arith, long)
         (omega arith) (omega arith) (omega arith)
 
     -- it is settled, in one way or another
-    pub kept-settled : (c : Counts) → c.opened ≡ s.counts.opened → c.repeated ≡ s.counts.repeated → settled c ≡ settled s.counts + 1
+    pub kept_settled : (c : Counts) → c.opened ≡ s.counts.opened → c.repeated ≡ s.counts.repeated → settled c ≡ settled s.counts + 1
         → Kept (placed s k (freed p) time c)
-    kept-settled c o r n =
+    kept_settled c o r n =
         let t = ranged s.timing h.0.0 in
-        let one : waits (partner s k) ≡ 1 = ap (λ x. cond (is_some x) 1 0) waiting-is in
+        let one : waits (partner s k) ≡ 1 = ap (λ x. cond (is_some x) 1 0) waiting_is in
         let again : repeats_in (partner s k).waiting ≤ 20 = omega (arith, (h.1 k).1) in
-        let next = next-is in
+        let next = next_is in
         kept_placed s k (freed p) time c h f.known f.timely
         (omega (arith, (h.1 k).0), omega arith, omega arith)
         (omega arith) (omega arith) (omega arith)
 
     -- its interval and its repeats are in range
-    pub in-range : (w.interval ≤ 600000) × (w.repeats ≤ 20)
-    in-range =
+    pub in_range : (w.interval ≤ 600000) × (w.repeats ≤ 20)
+    in_range =
         let t = ranged s.timing h.0.0 in
-        let i : interval_in (partner s k).waiting ≡ w.interval = ap interval_in waiting-is in
-        let r : repeats_in (partner s k).waiting ≡ w.repeats = ap repeats_in waiting-is in
+        let i : interval_in (partner s k).waiting ≡ w.interval = ap interval_in waiting_is in
+        let r : repeats_in (partner s k).waiting ≡ w.repeats = ap repeats_in waiting_is in
         (omega (arith, (h.1 k).2), omega (arith, (h.1 k).1))
 
-    pub repeats-left : spent s.timing w ≡ false → w.repeats < 20
-    repeats-left g =
+    pub repeats_left : spent s.timing w ≡ false → w.repeats < 20
+    repeats_left g =
         let t = ranged s.timing h.0.0 in
         let room : w.repeats < s.timing.repeats = leb-false _ _ (or_parts (leb s.timing.repeats w.repeats) _ g).0 in
         omega arith

@@ -56,30 +56,30 @@ module _ (s : Station) (slab : List ℕ) (k time : ℕ) (allowed : Bool) (conten
   abbrev pub opened_after : ℕ → Station
   opened_after n = placed s k (asking s.timing time content n (partner s k)) time (count_opened s.counts)
 
-  pub opening-judged : opening s slab k time allowed content ≡ outcome s slab k time content (judged s (length slab) k time allowed)
-  opening-judged =
+  pub opening_judged : opening s slab k time allowed content ≡ outcome s slab k time content (judged s (length slab) k time allowed)
+  opening_judged =
       grounds (outcome s slab k time content) (untimely s time) (ltb (length slab) 8192) (unknown s k) (not allowed) (is_some (partner s k).waiting) (leb 65536 (partner s k).next)
       (Err Time) (Err ShortMemory) (Err Unknown) (Err Limit) (Err StillWaits) (Err Exhausted) (Ok (partner s k))
 
   -- a refusal
-  pub opening-refused : (r : Result Sent Refusal) (reason : Refusal) → r ≡ Err reason → judged s (length slab) k time allowed ≡ Err reason
+  pub opening_refused : (r : Result Sent Refusal) (reason : Refusal) → r ≡ Err reason → judged s (length slab) k time allowed ≡ Err reason
       → ◌≡◌ {A = Opening} (record { answer = r; after = s; slab = slab }) (opening s slab k time allowed content)
-  opening-refused r reason e j = ap (λ x. record { answer = x; after = s; slab = slab }) e ∙ sym (opening-judged ∙ ap (outcome s slab k time content) j)
+  opening_refused r reason e j = ap (λ x. record { answer = x; after = s; slab = slab }) e ∙ sym (opening_judged ∙ ap (outcome s slab k time content) j)
 
   -- where it is accepted, there is such a partner, and the packet is written and noted
-  pub opening-accepted : (sent : Sent) → (opening s slab k time allowed content).answer ≡ Ok sent
+  pub opening_accepted : (sent : Sent) → (opening s slab k time allowed content).answer ≡ Ok sent
       → (k < length s.partners) × ((n : ℕ) × ((opening s slab k time allowed content).after ≡ opened_after n) × (sent ≡ record { number = (partner s k).next; place = Slab (512 * k) n }))
-  opening-accepted sent h = by-judgement (judged s (length slab) k time allowed) refl
+  opening_accepted sent h = by_judgement (judged s (length slab) k time allowed) refl
     where
-      by-judgement : (r : Result Partner Refusal) → judged s (length slab) k time allowed ≡ r
+      by_judgement : (r : Result Partner Refusal) → judged s (length slab) k time allowed ≡ r
           → (k < length s.partners) × ((n : ℕ) × ((opening s slab k time allowed content).after ≡ opened_after n) × (sent ≡ record { number = (partner s k).next; place = Slab (512 * k) n }))
-      by-judgement (Err reason) j =
-          let e = opening-judged ∙ ap (outcome s slab k time content) j in
+      by_judgement (Err reason) j =
+          let e = opening_judged ∙ ap (outcome s slab k time content) j in
           let t : ◌≡◌ {A = Result Sent Refusal} (Ok sent) (Err reason) = sym h ∙ ap (λ x. x.answer) e in
           let z : ◌≡◌ {A = ℕ} 0 1 = cc in
           absurd (omega arith)
-      by-judgement (Ok p) j =
-          let e = opening-judged ∙ ap (outcome s slab k time content) j in
+      by_judgement (Ok p) j =
+          let e = opening_judged ∙ ap (outcome s slab k time content) j in
           let n = length (bytes_of (asked p.next content)) in
           let t : ◌≡◌ {A = Result Sent Refusal} (Ok sent) (Ok (record { number = (partner s k).next; place = Slab (512 * k) n })) = sym h ∙ ap (λ x. x.answer) e in
           let known = none_held (untimely s time) (ltb (length slab) 8192) (unknown s k) (not allowed) (is_some (partner s k).waiting) (leb 65536 (partner s k).next) Time ShortMemory Unknown Limit StillWaits Exhausted (partner s k) p j in
@@ -114,37 +114,37 @@ module _ (s : Station) (slab : List ℕ) (k time : ℕ) (allowed : Bool) (conten
 
     module _ (n : ℕ) (ys : List ℕ) (sent : Sent) (t : Ok n ≡ (written allowed (asked p.next content) row).told) (r : ys ≡ (written allowed (asked p.next content) row).row)
         (b : ReadsBack (asked p.next content) n) (e : sent ≡ record { number = p.next; place = Slab (512 * k) n }) where
-      told-length : n ≡ length bytes
-      told-length =
+      told_length : n ≡ length bytes
+      told_length =
           let told : ◌≡◌ {A = Result ℕ Refusal} (Ok n) (Ok (length bytes)) = t ∙ ap (λ x. x.told) row_written in
           cc
 
       lies : put_mid (512 * k) (512 * k + 512 - 512 * k) slab ys ≡ rowed slab k bytes
-      lies = part_written (512 * k) (512 * k + 512 - 512 * k) slab bytes ys (omega (arith, b.0, told-length)) (omega (arith, inside)) (r ∙ ap (λ x. x.row) row_written)
+      lies = part_written (512 * k) (512 * k + 512 - 512 * k) slab bytes ys (omega (arith, b.0, told_length)) (omega (arith, inside)) (r ∙ ap (λ x. x.row) row_written)
 
       -- and noted
-      pub opening-noted : (s' : Station) → s' ≡ placed s k (asked_by s.timing time (command_of content) (count_of content) n p) time (count_opened s.counts)
+      pub opening_noted : (s' : Station) → s' ≡ placed s k (asked_by s.timing time (command_of content) (count_of content) n p) time (count_opened s.counts)
           → ◌≡◌ {A = Opening} (record { answer = Ok sent; after = s'; slab = put_mid (512 * k) (512 * k + 512 - 512 * k) slab ys }) (opening s slab k time allowed content)
-      opening-noted s' a =
+      opening_noted s' a =
           let sent_is : sent ≡ record { number = (partner s k).next; place = Slab (512 * k) (length bytes) } =
-          e ∙ ap (λ q. record { number = q.next; place = Slab (512 * k) n }) f.found.here ∙ ap (λ x. record { number = (partner s k).next; place = Slab (512 * k) x }) told-length in
+          e ∙ ap (λ q. record { number = q.next; place = Slab (512 * k) n }) f.found.here ∙ ap (λ x. record { number = (partner s k).next; place = Slab (512 * k) x }) told_length in
           let after : s' ≡ opened_after (length bytes) =
-          a ∙ ap (λ x. placed s k (asking s.timing time content x p) time (count_opened s.counts)) told-length
+          a ∙ ap (λ x. placed s k (asking s.timing time content x p) time (count_opened s.counts)) told_length
           ∙ ap (λ q. placed s k (asking s.timing time content (length bytes) q) time (count_opened s.counts)) f.found.here in
           ap (λ x. record { answer = Ok x; after = s'; slab = put_mid (512 * k) (512 * k + 512 - 512 * k) slab ys }) sent_is
           ∙ ap (λ x. record { answer = (opened s slab k time content bytes).answer; after = x; slab = put_mid (512 * k) (512 * k + 512 - 512 * k) slab ys }) after
           ∙ ap (λ x. record { answer = (opened s slab k time content bytes).answer; after = (opened s slab k time content bytes).after; slab = x }) lies
-          ∙ sym (opening-judged ∙ ap (outcome s slab k time content) j)
+          ∙ sym (opening_judged ∙ ap (outcome s slab k time content) j)
 
       -- and can be handed out again
-      pub opening-back : (reply : List ℕ) → PacketThere content (put_mid (512 * k) (512 * k + 512 - 512 * k) slab ys) sent reply
-      opening-back reply = record {
+      pub opening_back : (reply : List ℕ) → PacketThere content (put_mid (512 * k) (512 * k + 512 - 512 * k) slab ys) sent reply
+      opening_back reply = record {
         bytes = bytes;
         there =
             ap (λ x. part_of x.place (put_mid (512 * k) (512 * k + 512 - 512 * k) slab ys) reply) e
-            ∙ ap (λ x. piece (put_mid (512 * k) (512 * k + 512 - 512 * k) slab ys) (512 * k) x) told-length
+            ∙ ap (λ x. piece (put_mid (512 * k) (512 * k + 512 - 512 * k) slab ys) (512 * k) x) told_length
             ∙ ap (λ x. piece x (512 * k) (length bytes)) lies
-            ∙ put_there slab bytes (512 * k) (omega (arith, b.0, told-length, inside));
+            ∙ put_there slab bytes (512 * k) (omega (arith, b.0, told_length, inside));
         reads = b.1 ∙ ap (λ x. Ok (asked x.number content)) (sym e);
-        short = omega (arith, b.0, told-length);
+        short = omega (arith, b.0, told_length);
       }

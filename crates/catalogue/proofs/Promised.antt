@@ -125,8 +125,8 @@ module _ (s : Station) (slab : List ℕ) (k time : ℕ) (allowed : Bool) (conten
   refused_all : (reason : Refusal) → Fulfilled (not_opened s slab reason)
   refused_all reason = (refl, none_changed k s s refl, refl)
 
-  pub opened-all : Fulfilled (opening s slab k time allowed content)
-  opened-all =
+  pub opened_all : Fulfilled (opening s slab k time allowed content)
+  opened_all =
       cond_both (untimely s time) (not_opened s slab Time) _ Fulfilled (λ _. refused_all Time)
       (λ _. cond_both (ltb (length slab) 8192) (not_opened s slab ShortMemory) _ Fulfilled (λ _. refused_all ShortMemory)
       (λ long. cond_both (unknown s k) (not_opened s slab Unknown) _ Fulfilled (λ _. refused_all Unknown)

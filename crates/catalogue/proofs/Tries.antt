@@ -14,7 +14,7 @@ use Rattle.catalogue.specs.Stations.{Timing, Station, newcomer, untimely, unknow
 use Rattle.catalogue.specs.Opening.{partner, asking, opening}
 use Rattle.catalogue.specs.Polling.{longer, with_waiting, spent, sent_again, due, when_due, polling}
 use Rattle.catalogue.specs.Backoff.{poll_time, sends, first_silent, last_poll, gives_up_at, deadline_in, deadline, polled_at_deadlines, PollAt, BacksOff, GivesUp}
-use Rattle.catalogue.proofs.Openings.{opening-accepted}
+use Rattle.catalogue.proofs.Openings.{opening_accepted}
 
 -- twice the interval
 pub doubles : (a j : ℕ) → a * 2 ^ (j + 1) ≡ 2 * (a * 2 ^ j)
@@ -63,34 +63,34 @@ polling_due s k time w c l h e d =
     cond-false (untimely s time) _ _ timely ∙ cond-false (unknown s k) _ _ there ∙ ap (when_due s k time) e ∙ cond-false (ltb time w.deadline) _ _ now
 
 module _ (t : Timing) (time k : ℕ) (sent : Sent) (j : ℕ) (s : Station) (g : Stage t time k sent j s) (l : poll_time t time j ≤ 1000000000000000) where
-  now-due : polling s k (poll_time t time j) ≡ due s k (poll_time t time j) g.w
-  now-due = polling_due s k (poll_time t time j) g.w g.clock l g.known g.waits (omega (arith, g.deadline))
+  now_due : polling s k (poll_time t time j) ≡ due s k (poll_time t time j) g.w
+  now_due = polling_due s k (poll_time t time j) g.w g.clock l g.known g.waits (omega (arith, g.deadline))
 
-  spent-is : spent s.timing g.w ≡ not (sends t j)
-  spent-is =
+  spent_is : spent s.timing g.w ≡ not (sends t j)
+  spent_is =
       let i : 2 * g.w.interval ≡ t.first * 2 ^ (j + 1) = omega (arith, g.interval, doubles t.first j) in
       ap (λ x. spent x g.w) g.timing ∙ ap (λ x. leb t.repeats x || ltb t.longest (2 * g.w.interval)) g.repeats ∙ ap (λ x. leb t.repeats j || ltb t.longest x) i
       ∙ opposite t.repeats j (t.first * 2 ^ (j + 1)) t.longest
 
-  pub due-at : deadline s k ≡ poll_time t time j
-  due-at = ap (λ x. deadline_in x) g.waits ∙ g.deadline
+  pub due_at : deadline s k ≡ poll_time t time j
+  due_at = ap (λ x. deadline_in x) g.waits ∙ g.deadline
 
   -- it is given up
-  pub failed-at : sends t j ≡ false → (polling s k (poll_time t time j)).answer ≡ Ok (Failed sent.number)
-  failed-at f =
-      let x = now-due ∙ cond-true (spent s.timing g.w) _ _ (spent-is ∙ ap not f) in
+  pub failed_at : sends t j ≡ false → (polling s k (poll_time t time j)).answer ≡ Ok (Failed sent.number)
+  failed_at f =
+      let x = now_due ∙ cond-true (spent s.timing g.w) _ _ (spent_is ∙ ap not f) in
       ap (λ o. o.answer) x ∙ ap (λ n. Ok (Failed n)) g.number
 
   again : sends t j ≡ true → polling s k (poll_time t time j) ≡ sent_again s k (poll_time t time j) g.w
-  again f = now-due ∙ cond-false (spent s.timing g.w) _ _ (spent-is ∙ ap not f)
+  again f = now_due ∙ cond-false (spent s.timing g.w) _ _ (spent_is ∙ ap not f)
 
   -- it is sent again
-  pub again-at : sends t j ≡ true → (polling s k (poll_time t time j)).answer ≡ Ok (Again sent.place)
-  again-at f = ap (λ o. o.answer) (again f) ∙ ap (λ p. Ok (Again p)) g.place
+  pub again_at : sends t j ≡ true → (polling s k (poll_time t time j)).answer ≡ Ok (Again sent.place)
+  again_at f = ap (λ o. o.answer) (again f) ∙ ap (λ p. Ok (Again p)) g.place
 
   -- and the next poll is the one behind
-  pub next-stage : sends t j ≡ true → Stage t time k sent (j + 1) (polling s k (poll_time t time j)).after
-  next-stage f = subst (Stage t time k sent (j + 1)) (sym (ap (λ o. o.after) (again f))) (record {
+  pub next_stage : sends t j ≡ true → Stage t time k sent (j + 1) (polling s k (poll_time t time j)).after
+  next_stage f = subst (Stage t time k sent (j + 1)) (sym (ap (λ o. o.after) (again f))) (record {
     timing = g.timing;
     clock = omega (arith, next_time t time j);
     known = subst (λ n. k < n) (sym (length-set s.partners k (with_waiting (partner s k) (longer (poll_time t time j) g.w)))) g.known;
@@ -115,9 +115,9 @@ module _ (s : Station) (slab : List ℕ) (k time : ℕ) (allowed : Bool) (conten
   start = (opening s slab k time allowed content).after
 
   -- before the first poll
-  first-stage : Stage s.timing time k sent 0 start
-  first-stage =
-      let a = opening-accepted s slab k time allowed content sent o in
+  first_stage : Stage s.timing time k sent 0 start
+  first_stage =
+      let a = opening_accepted s slab k time allowed content sent o in
       let n = a.1.0 in
       let p = asking s.timing time content n (partner s k) in
       subst (Stage s.timing time k sent 0) (sym a.1.1) (record {
@@ -134,12 +134,12 @@ module _ (s : Station) (slab : List ℕ) (k time : ℕ) (allowed : Bool) (conten
       })
 
   stages : (j : ℕ) → ((i : ℕ) → i < j → sends s.timing i ≡ true) → poll_time s.timing time j ≤ 1000000000000000 → Stage s.timing time k sent j (polled_at_deadlines start k j)
-  stages zero h l = first-stage
+  stages zero h l = first_stage
   stages (suc j) h l =
       let before : poll_time s.timing time j ≤ 1000000000000000 = omega (arith, later s.timing time j (suc j) (omega arith)) in
       let g = stages j (λ i b. h i (omega arith)) before in
-      let n = next-stage s.timing time k sent j (polled_at_deadlines start k j) g before (h j (omega arith)) in
-      let m = subst (λ x. Stage s.timing time k sent (j + 1) (polling (polled_at_deadlines start k j) k x).after) (sym (due-at s.timing time k sent j (polled_at_deadlines start k j) g before)) n in
+      let n = next_stage s.timing time k sent j (polled_at_deadlines start k j) g before (h j (omega arith)) in
+      let m = subst (λ x. Stage s.timing time k sent (j + 1) (polling (polled_at_deadlines start k j) k x).after) (sym (due_at s.timing time k sent j (polled_at_deadlines start k j) g before)) n in
       subst (λ x. Stage s.timing time k sent x (polled_at_deadlines start k (suc j))) (add-one j) m
 
   pub backs : (j : ℕ) → ((i : ℕ) → i < j → sends s.timing i ≡ true) → poll_time s.timing time j ≤ 1000000000000000
@@ -147,10 +147,10 @@ module _ (s : Station) (slab : List ℕ) (k time : ℕ) (allowed : Bool) (conten
   backs j h l =
       let g = stages j h l in
       record {
-        due = due-at s.timing time k sent j (polled_at_deadlines start k j) g l;
+        due = due_at s.timing time k sent j (polled_at_deadlines start k j) g l;
         says = cond_both (sends s.timing j) (Again sent.place) (Failed sent.number) (λ x. (polling (polled_at_deadlines start k j) k (poll_time s.timing time j)).answer ≡ Ok x)
-            (again-at s.timing time k sent j (polled_at_deadlines start k j) g l)
-            (failed-at s.timing time k sent j (polled_at_deadlines start k j) g l);
+            (again_at s.timing time k sent j (polled_at_deadlines start k j) g l)
+            (failed_at s.timing time k sent j (polled_at_deadlines start k j) g l);
       }
 
 pub backs_off : (s : Station) (time : ℕ) → BacksOff s time

@@ -34,11 +34,11 @@ line_whole (b ∷ bs) h clear =
 -- there are no more lines than bytes
 pub few_lines : (bs : List ℕ) → length (lines_of bs) ≤ length bs
 few_lines [] = omega arith
-few_lines (b ∷ bs) = cond_both (eqb b 10) _ _ (λ ls. length ls ≤ length (b ∷ bs)) (λ _. omega (arith, few_lines bs)) (λ _. onto-few (lines_of bs) (few_lines bs))
+few_lines (b ∷ bs) = cond_both (eqb b 10) _ _ (λ ls. length ls ≤ length (b ∷ bs)) (λ _. omega (arith, few_lines bs)) (λ _. onto_few (lines_of bs) (few_lines bs))
   where
-    onto-few : (ls : List (List ℕ)) → length ls ≤ length bs → length (onto b ls) ≤ length (b ∷ bs)
-    onto-few [] h = omega arith
-    onto-few (l ∷ ls) h = omega arith
+    onto_few : (ls : List (List ℕ)) → length ls ≤ length bs → length (onto b ls) ≤ length (b ∷ bs)
+    onto_few [] h = omega arith
+    onto_few (l ∷ ls) h = omega arith
 
 pub no_lines : (bs : List ℕ) → length bs ≡ 0 → lines_of bs ≡ []
 no_lines bs e = ap lines_of (nil_from_length bs e)

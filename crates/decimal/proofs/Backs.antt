@@ -113,8 +113,8 @@ module _ (s : Bool) (D : ℕ) (n : D % 10 ≡ 0 → ⊥) (l : D < 10 ^ 18) (ds :
       ∙ plain_normal s D (pos 0 -ℤ pos (length f)) n l
       ∙ ap (λ y. result s D (pos 0 -ℤ pos y)) g
 
-  back-padded : (z : ℕ) → z ≤ 40 → unsigned_of s (ds ++ replicate z 48) ≡ result s D (pos z)
-  back-padded z h =
+  back_padded : (z : ℕ) → z ≤ 40 → unsigned_of s (ds ++ replicate z 48) ≡ result s D (pos z)
+  back_padded z h =
       let w = ds ++ replicate z 48 in
       let g : 0 < length (ds ++ replicate z 48) = simp (length-append, length-replicate) (omega arith) in
       ap (unsigned_of s) (sym (append-nil w))
@@ -124,8 +124,8 @@ module _ (s : Bool) (D : ℕ) (n : D % 10 ≡ 0 → ⊥) (l : D < 10 ^ 18) (ds :
       ∙ ap (result s D) (+ℤ_idl (pos z))
 
   -- the point after j digits, and then a power
-  back-pointed : (j : ℕ) (rest : List ℕ) (x : ℤ) → 0 < j → j < length ds → is_ascii_digit (get_or rest 0 0) ≡ false → power_read rest ≡ Some x → unsigned_of s (take j ds ++ (46 ∷ (drop j ds ++ rest))) ≡ result s D (x -ℤ pos (length ds - j))
-  back-pointed j rest x b c r e =
+  back_pointed : (j : ℕ) (rest : List ℕ) (x : ℤ) → 0 < j → j < length ds → is_ascii_digit (get_or rest 0 0) ≡ false → power_read rest ≡ Some x → unsigned_of s (take j ds ++ (46 ∷ (drop j ds ++ rest))) ≡ result s D (x -ℤ pos (length ds - j))
+  back_pointed j rest x b c r e =
       let t : length (take j ds) ≡ j = length-take-le j ds (omega arith) in
       let u : length (drop j ds) ≡ length ds - j = length-drop j ds in
       parts_whole s (take j ds) (46 ∷ (drop j ds ++ rest)) (all_take j ds a) (omega arith) refl
@@ -144,35 +144,35 @@ module _ (s : Bool) (D : ℕ) (n : D % 10 ≡ 0 → ⊥) (l : D < 10 ^ 18) (ds :
       ∙ plain_normal s D (x -ℤ pos 0) n l
       ∙ ap (result s D) (+ℤ_idr x)
 
-  back-fixed-pos : (m : ℕ) (e : ℤ) → m ≤ 9 → pos m ≡ e +ℤ pos (length ds - 1) → unsigned_of s (placed (pos m) ds) ≡ result s D e
-  back-fixed-pos m e b g =
+  back_fixed_pos : (m : ℕ) (e : ℤ) → m ≤ 9 → pos m ≡ e +ℤ pos (length ds - 1) → unsigned_of s (placed (pos m) ds) ≡ result s D e
+  back_fixed_pos m e b g =
       elim (cases_lt (m + 1) (length ds)) [
         | inl c ↦
             let y : pos 0 -ℤ pos (length ds - (m + 1)) ≡ e = omega (arith, ints) in
             ap (unsigned_of s) (place_pointed (pos m) ds (omega (arith, ints)) (omega (arith, ints)) c ∙ ap (λ x. take (m + 1) ds ++ (46 ∷ x)) (sym (append-nil (drop (m + 1) ds))))
-            ∙ back-pointed (m + 1) [] (pos 0) (omega arith) c refl refl
+            ∙ back_pointed (m + 1) [] (pos 0) (omega arith) c refl refl
             ∙ ap (result s D) y
         | inr c ↦
             let y : pos (m + 1 - length ds) ≡ e = omega (arith, ints) in
             ap (unsigned_of s) (place_padded (pos m) ds (omega (arith, ints)) (omega (arith, ints)) c)
-            ∙ back-padded (m + 1 - length ds) (omega arith)
+            ∙ back_padded (m + 1 - length ds) (omega arith)
             ∙ ap (result s D) y
       ]
 
-  back-fixed-neg : (m : ℕ) (e : ℤ) → m ≤ 3 → negsuc m ≡ e +ℤ pos (length ds - 1) → unsigned_of s (placed (negsuc m) ds) ≡ result s D e
-  back-fixed-neg m e b g =
+  back_fixed_neg : (m : ℕ) (e : ℤ) → m ≤ 3 → negsuc m ≡ e +ℤ pos (length ds - 1) → unsigned_of s (placed (negsuc m) ds) ≡ result s D e
+  back_fixed_neg m e b g =
       let y : pos 0 -ℤ pos (suc m - 1 + length ds) ≡ e = omega (arith, ints) in
       ap (unsigned_of s) (place_below (negsuc m) ds (omega (arith, ints)) (omega (arith, ints)))
       ∙ back_below (suc m - 1)
       ∙ ap (result s D) y
 
-  back-far : (p e : ℤ) → in_fixed p ≡ false → negsuc 998 ≤ℤ p → p ≤ℤ pos 999 → p ≡ e +ℤ pos (length ds - 1) → unsigned_of s (placed p ds) ≡ result s D e
-  back-far p e f b c g =
+  back_far : (p e : ℤ) → in_fixed p ≡ false → negsuc 998 ≤ℤ p → p ≤ℤ pos 999 → p ≡ e +ℤ pos (length ds - 1) → unsigned_of s (placed p ds) ≡ result s D e
+  back_far p e f b c g =
       elim (cases_lt 1 (length ds)) [
         | inl h ↦
             let y : p -ℤ pos (length ds - 1) ≡ e = omega (arith, ints) in
             ap (unsigned_of s) (place_more p ds f h)
-            ∙ back-pointed 1 (69 ∷ power_text p) p (omega arith) h refl (power_back p b c)
+            ∙ back_pointed 1 (69 ∷ power_text p) p (omega arith) h refl (power_back p b c)
             ∙ ap (result s D) y
         | inr h ↦
             let y : p ≡ e = omega (arith, ints) in
@@ -184,13 +184,13 @@ module _ (s : Bool) (D : ℕ) (n : D % 10 ≡ 0 → ⊥) (l : D < 10 ^ 18) (ds :
   back_any : (p e : ℤ) → negsuc 998 ≤ℤ p → p ≤ℤ pos 999 → p ≡ e +ℤ pos (length ds - 1) → unsigned_of s (placed p ds) ≡ result s D e
   back_any (pos m) e b c g =
       elim (cases_lt m 10) [
-        | inl h ↦ back-fixed-pos m e (omega arith) g
-        | inr h ↦ back-far (pos m) e (grind (arith, ints, nat_tests)) b c g
+        | inl h ↦ back_fixed_pos m e (omega arith) g
+        | inr h ↦ back_far (pos m) e (grind (arith, ints, nat_tests)) b c g
       ]
   back_any (negsuc m) e b c g =
       elim (cases_lt m 4) [
-        | inl h ↦ back-fixed-neg m e (omega arith) g
-        | inr h ↦ back-far (negsuc m) e (grind (arith, ints, nat_tests)) b c g
+        | inl h ↦ back_fixed_neg m e (omega arith) g
+        | inr h ↦ back_far (negsuc m) e (grind (arith, ints, nat_tests)) b c g
       ]
 
 not_minus : (s : Bool) (xs : List ℕ) (d : Real) → unsigned_of s xs ≡ Some d → get_or xs 0 0 ≡ 45 → ⊥

@@ -91,21 +91,21 @@ power_figured (pos n) a b = let t = two_figured n (omega (arith, ints)) in recor
 power_figured (negsuc n) a b = let t = two_figured (suc n) (omega (arith, ints)) in record { all = t.all; some = omega arith; few = omega (arith, t.few) }
 
 module _ (ds : List ℕ) (a : all_ascii_digits ds ≡ true) (o : 0 < length ds) (k : length ds ≤ 18) where
-  below-figured : (p : ℤ) → negsuc 3 ≤ℤ p → p ≤ℤ negsuc 0 → nat_abs p ≤ 4 → Figured (placed p ds) 24
-  below-figured p u v w =
+  below_figured : (p : ℤ) → negsuc 3 ≤ℤ p → p ≤ℤ negsuc 0 → nat_abs p ≤ 4 → Figured (placed p ds) 24
+  below_figured p u v w =
       let z = replicate (nat_abs p - 1) 48 in
       let l : length (replicate (nat_abs p - 1) 48 ++ ds) ≡ nat_abs p - 1 + length ds = length-append (replicate (nat_abs p - 1) 48) ds ∙ ap (λ n. n + length ds) (length-replicate (nat_abs p - 1) 48) in
       figured_at (placed p ds) (48 ∷ 46 ∷ (z ++ ds)) 24 (place_below p ds u v) (figures_append z ds (figures_zeros (nat_abs p - 1)) (figures_digits ds a)) (omega (arith, l)) (omega (arith, l))
 
-  padded-figured : (p : ℤ) → pos 0 ≤ℤ p → p ≤ℤ pos 9 → nat_abs p ≤ 9 → length ds ≤ nat_abs p + 1 → Figured (placed p ds) 24
-  padded-figured p u v w h =
+  padded_figured : (p : ℤ) → pos 0 ≤ℤ p → p ≤ℤ pos 9 → nat_abs p ≤ 9 → length ds ≤ nat_abs p + 1 → Figured (placed p ds) 24
+  padded_figured p u v w h =
       let z = replicate (nat_abs p + 1 - length ds) 48 in
       let l : length (ds ++ replicate (nat_abs p + 1 - length ds) 48) ≡ length ds + (nat_abs p + 1 - length ds) = length-append ds z ∙ ap (λ n. length ds + n) (length-replicate (nat_abs p + 1 - length ds) 48) in
       figured_at (placed p ds) (ds ++ z) 24 (place_padded p ds u v h) (figures_append ds z (figures_digits ds a) (figures_zeros (nat_abs p + 1 - length ds))) (omega (arith, l)) (omega (arith, l))
 
   -- a point after j digits, and more behind
-  cut-figured : (j m : ℕ) (rest bs : List ℕ) → 0 < j → j < length ds → bs ≡ take j ds ++ (46 ∷ (drop j ds ++ rest)) → figures rest ≡ true → length rest ≤ m → Figured bs (19 + m)
-  cut-figured j m rest bs x y e f g =
+  cut_figured : (j m : ℕ) (rest bs : List ℕ) → 0 < j → j < length ds → bs ≡ take j ds ++ (46 ∷ (drop j ds ++ rest)) → figures rest ≡ true → length rest ≤ m → Figured bs (19 + m)
+  cut_figured j m rest bs x y e f g =
       let t : length (take j ds) ≡ j = length-take-le j ds (omega arith) in
       let d : length (drop j ds) ≡ length ds - j = length-drop j ds in
       let q : length (drop j ds ++ rest) ≡ length (drop j ds) + length rest = length-append (drop j ds) rest in
@@ -114,35 +114,35 @@ module _ (ds : List ℕ) (a : all_ascii_digits ds ≡ true) (o : 0 < length ds) 
       (figures_append (take j ds) (46 ∷ (drop j ds ++ rest)) (figures_digits (take j ds) (all_take j ds a)) (figures_append (drop j ds) rest (figures_digits (drop j ds) (all_drop ds j a)) f))
       (omega arith) (omega arith)
 
-  pointed-figured : (p : ℤ) → pos 0 ≤ℤ p → p ≤ℤ pos 9 → nat_abs p + 1 < length ds → Figured (placed p ds) 24
-  pointed-figured p u v h =
+  pointed_figured : (p : ℤ) → pos 0 ≤ℤ p → p ≤ℤ pos 9 → nat_abs p + 1 < length ds → Figured (placed p ds) 24
+  pointed_figured p u v h =
       let e = place_pointed p ds u v h ∙ ap (λ x. take (nat_abs p + 1) ds ++ (46 ∷ x)) (sym (append-nil (drop (nat_abs p + 1) ds))) in
-      cut-figured (nat_abs p + 1) 5 [] (placed p ds) (omega arith) h e refl (omega arith)
+      cut_figured (nat_abs p + 1) 5 [] (placed p ds) (omega arith) h e refl (omega arith)
 
-  far-figured : (p : ℤ) → in_fixed p ≡ false → negsuc 998 ≤ℤ p → p ≤ℤ pos 999 → Figured (placed p ds) 24
-  far-figured p f u v =
+  far_figured : (p : ℤ) → in_fixed p ≡ false → negsuc 998 ≤ℤ p → p ≤ℤ pos 999 → Figured (placed p ds) 24
+  far_figured p f u v =
       let t = power_figured p u v in
       elim (cases_lt 1 (length ds)) [
-        | inl h ↦ cut-figured 1 5 (69 ∷ power_text p) (placed p ds) (omega arith) h (place_more p ds f h) t.all t.few
+        | inl h ↦ cut_figured 1 5 (69 ∷ power_text p) (placed p ds) (omega arith) h (place_more p ds f h) t.all t.few
         | inr h ↦
             let l : length (ds ++ (69 ∷ power_text p)) ≡ length ds + length (69 ∷ power_text p) = length-append ds (69 ∷ power_text p) in
             figured_at (placed p ds) (ds ++ (69 ∷ power_text p)) 24 (place_one p ds f (omega arith)) (figures_append ds (69 ∷ power_text p) (figures_digits ds a) t.all) (omega (arith, l)) (omega (arith, l, t.few))
       ]
 
-  placed-figured : (p : ℤ) → negsuc 998 ≤ℤ p → p ≤ℤ pos 999 → Figured (placed p ds) 24
-  placed-figured (pos m) u v =
+  placed_figured : (p : ℤ) → negsuc 998 ≤ℤ p → p ≤ℤ pos 999 → Figured (placed p ds) 24
+  placed_figured (pos m) u v =
       elim (cases_lt m 10) [
         | inl h ↦
             elim (cases_lt (m + 1) (length ds)) [
-              | inl b ↦ pointed-figured (pos m) (omega (arith, ints)) (omega (arith, ints)) b
-              | inr b ↦ padded-figured (pos m) (omega (arith, ints)) (omega (arith, ints)) (omega arith) b
+              | inl b ↦ pointed_figured (pos m) (omega (arith, ints)) (omega (arith, ints)) b
+              | inr b ↦ padded_figured (pos m) (omega (arith, ints)) (omega (arith, ints)) (omega arith) b
             ]
-        | inr h ↦ far-figured (pos m) (grind (arith, ints, nat_tests)) u v
+        | inr h ↦ far_figured (pos m) (grind (arith, ints, nat_tests)) u v
       ]
-  placed-figured (negsuc m) u v =
+  placed_figured (negsuc m) u v =
       elim (cases_lt m 4) [
-        | inl h ↦ below-figured (negsuc m) (omega (arith, ints)) (omega (arith, ints)) (omega arith)
-        | inr h ↦ far-figured (negsuc m) (grind (arith, ints, nat_tests)) u v
+        | inl h ↦ below_figured (negsuc m) (omega (arith, ints)) (omega (arith, ints)) (omega arith)
+        | inr h ↦ far_figured (negsuc m) (grind (arith, ints, nat_tests)) u v
       ]
 
 signed_figured : (s : Bool) (bs : List ℕ) → Figured bs 24 → Figured (sign_text s ++ bs) 25
@@ -154,5 +154,5 @@ pub spelling_textual : (d : Real) → Normal d → negsuc 399 ≤ℤ d.exponent 
 spelling_textual d n u v =
     let h : d.digits < 2 ^ 64 = omega (arith, n.short) in
     let k = length-decimal-le 18 d.digits (omega arith) n.short h in
-    let f = signed_figured d.negative _ (placed-figured (decimal d.digits) (digits_decimal own d.digits h) (decimal_nonempty d.digits h) k (d.exponent +ℤ pos (length (decimal d.digits) - 1)) (omega (arith, ints)) (omega (arith, ints))) in
+    let f = signed_figured d.negative _ (placed_figured (decimal d.digits) (digits_decimal own d.digits h) (decimal_nonempty d.digits h) k (d.exponent +ℤ pos (length (decimal d.digits) - 1)) (omega (arith, ints)) (omega (arith, ints))) in
     figures_textual (spelling d) f.all f.some (omega (arith, f.few))

@@ -120,8 +120,8 @@ near a b o s t =
 
 -- the three ways of a comparison
 module _ (m n x y p q : ℕ) (e : m ≡ x * 10 ^ p) (f : n ≡ y * 10 ^ q) (a : (10 ^ 17 ≤ x) × (x < 10 ^ 18)) (b : (10 ^ 17 ≤ y) × (y < 10 ^ 18)) where
-  pub by-power : p < q → ltb p q ≡ leb m n
-  by-power l =
+  pub by_power : p < q → ltb p q ≡ leb m n
+  by_power l =
       let k = lower x y p q a.1 b.0 l in
       lt-ltb p q l ∙ sym (le-leb m n (omega arith))
 
@@ -133,8 +133,8 @@ module _ (m n x y p q : ℕ) (e : m ≡ x * 10 ^ p) (f : n ≡ y * 10 ^ q) (a : 
         | inr l ↦ let k = level x y p l in le-leb x y l ∙ sym (le-leb m n (omega arith))
       ]
 
-  pub by-neither : q ≤ p → (p ≡ q → ⊥) → eqb p q ≡ leb m n
-  by-neither l g =
+  pub by_neither : q ≤ p → (p ≡ q → ⊥) → eqb p q ≡ leb m n
+  by_neither l g =
       let h : q < p = omega arith in
       let k = lower y x q p b.1 a.0 h in
       ne_eqb p q g ∙ sym (lt-leb m n (omega arith))

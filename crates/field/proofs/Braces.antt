@@ -63,8 +63,8 @@ some_framed true x y e = (refl, cc)
 some_framed false x y e = let z : ◌≡◌ {A = ℕ} 0 1 = cc in absurd (omega arith)
 
 module _ (bs body : List ℕ) (short : length bs ≤ 512) (e : Some body ≡ cond (framed bs) (Some (inside bs)) None) where
-  pub fields-there : (text : List ℕ) → text ≡ body → IsUtf8 body → fields_of bs ≡ Ok (fields text)
-  fields-there text t u =
+  pub fields_there : (text : List ℕ) → text ≡ body → IsUtf8 body → fields_of bs ≡ Ok (fields text)
+  fields_there text t u =
       let p = some_framed (framed bs) body (inside bs) e in
       let f = from_framed bs p.0 in
       let w = (utf8_decides bs).1 (utf8_inside bs f (subst IsUtf8 p.1 u)) in
@@ -78,8 +78,8 @@ module _ (bs body : List ℕ) (short : length bs ≤ 512) (e : Some body ≡ con
       (λ w. rw (le-ltb 512 (length bs) short, p.0) (rw w))
       (cases_Bool (utf8 bs))
 
-  pub body-ends : (text : List ℕ) → text ≡ body → Ends bs (length bs - 1) text
-  body-ends text t =
+  pub body_ends : (text : List ℕ) → text ≡ body → Ends bs (length bs - 1) text
+  body_ends text t =
       let p = some_framed (framed bs) body (inside bs) e in
       let f = from_framed bs p.0 in
       let long : 2 ≤ length bs = f.long in

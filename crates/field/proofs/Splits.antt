@@ -31,11 +31,11 @@ split_is bs (Some x) h = let p = split_parts 58 bs (Some x) h (omega arith) in a
 -- there is always a field
 pub fields_some : (bs : List ℕ) → 0 < length (fields bs)
 fields_some [] = omega arith
-fields_some (b ∷ bs) = cond_both (eqb b 58) _ _ (λ fs. 0 < length fs) (λ _. omega arith) (λ _. onto-some b (fields bs))
+fields_some (b ∷ bs) = cond_both (eqb b 58) _ _ (λ fs. 0 < length fs) (λ _. omega arith) (λ _. onto_some b (fields bs))
   where
-    onto-some : (b : ℕ) (fs : List (List ℕ)) → 0 < length (onto b fs)
-    onto-some b [] = omega arith
-    onto-some b (f ∷ fs) = omega arith
+    onto_some : (b : ℕ) (fs : List (List ℕ)) → 0 < length (onto b fs)
+    onto_some b [] = omega arith
+    onto_some b (f ∷ fs) = omega arith
 
 -- the text stands in the packet in front of `end`
 abbrev pub Ends : List ℕ → ℕ → List ℕ → Type 0
@@ -55,8 +55,8 @@ module _ (packet text f behind : List ℕ) (end : ℕ) (e : text ≡ f ++ (58 �
             ∙ ap (λ m. take (length f) (drop m packet)) k,
       )
 
-  pub behind-ends : Ends packet end behind
-  behind-ends =
+  pub behind_ends : Ends packet end behind
+  behind_ends =
       let start = end - length text in
       let n = length f + 1 in
       let l : length text ≡ length f + 1 + length behind = long in

@@ -19,9 +19,9 @@ mem_cond x y l false m = m
 
 -- the first that passes
 module _ {X : Type 0} (p : X → Bool) where
-  pub first-most : (xs : List X) → first_by p xs ≤ length xs
-  first-most [] = omega arith
-  first-most (x ∷ xs) = go (first-most xs) (p x)
+  pub first_most : (xs : List X) → first_by p xs ≤ length xs
+  first_most [] = omega arith
+  first_most (x ∷ xs) = go (first_most xs) (p x)
     where
       go : first_by p xs ≤ length xs → (v : Bool) → cond v 0 (suc (first_by p xs)) ≤ suc (length xs)
       go ih true = omega arith
@@ -37,9 +37,9 @@ module _ {X : Type 0} (p : X → Bool) where
       go ih false e h = ih (omega arith)
 
   -- one that passes stands nowhere before it
-  pub first-until : (xs : List X) (d : X) (i : ℕ) → i < length xs → p (get_or xs i d) ≡ true → first_by p xs ≤ i
-  first-until [] d i h e = absurd (omega arith)
-  first-until (x ∷ xs) d i h e = go (first-until xs d) (p x) refl i h e
+  pub first_until : (xs : List X) (d : X) (i : ℕ) → i < length xs → p (get_or xs i d) ≡ true → first_by p xs ≤ i
+  first_until [] d i h e = absurd (omega arith)
+  first_until (x ∷ xs) d i h e = go (first_until xs d) (p x) refl i h e
     where
       go : ((j : ℕ) → j < length xs → p (get_or xs j d) ≡ true → first_by p xs ≤ j) → (v : Bool) → p x ≡ v
           → (j : ℕ) → j < suc (length xs) → p (get_or (x ∷ xs) j d) ≡ true → cond v 0 (suc (first_by p xs)) ≤ j

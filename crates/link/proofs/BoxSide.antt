@@ -22,23 +22,23 @@ use Rattle.link.specs.Calls.{BoxCall, handle, owner_write, Mem, replied_with}
 use Rattle.link.specs.Carryings.{Carrying, transacts, repeats, carries, carryings, Below, InOrder}
 use Rattle.link.specs.Runs.{BoxAnswers, box_after, new_box}
 use Rattle.link.proofs.Basics.{eqb_self, same_self, first_passes}
-use Rattle.link.proofs.Rows.{row_here, row_other, row-length, part_row, part_reply}
+use Rattle.link.proofs.Rows.{row_here, row_other, row_length, part_row, part_reply}
 use Rattle.link.proofs.Handlings.{place, record_at, Serves, known, fresh, Handled, handled_view}
 use Rattle.link.proofs.Handlings as H
 use Rattle.link.proofs.GoodSide.{handled_sound}
-use Rattle.mount_box.proofs.Replies.{reply-back, reply-size}
+use Rattle.mount_box.proofs.Replies.{reply_back, reply_size}
 
 -- the first that passes, when one is put in another's place
 module _ {X : Type 0} (p : X → Bool) where
-  first-set-other : (xs : List X) (k : ℕ) (y d : X) → p (get_or xs k d) ≡ false → p y ≡ false → first_by p (set xs k y) ≡ first_by p xs
-  first-set-other [] k y d e f = refl
-  first-set-other (x ∷ xs) zero y d e f = rw (e, f)
-  first-set-other (x ∷ xs) (suc k) y d e f = ap (λ n. cond (p x) 0 (suc n)) (first-set-other xs k y d e f)
+  first_set_other : (xs : List X) (k : ℕ) (y d : X) → p (get_or xs k d) ≡ false → p y ≡ false → first_by p (set xs k y) ≡ first_by p xs
+  first_set_other [] k y d e f = refl
+  first_set_other (x ∷ xs) zero y d e f = rw (e, f)
+  first_set_other (x ∷ xs) (suc k) y d e f = ap (λ n. cond (p x) 0 (suc n)) (first_set_other xs k y d e f)
 
-  first-set-here : (xs : List X) (k : ℕ) (y : X) → k ≤ first_by p xs → k < length xs → p y ≡ true → first_by p (set xs k y) ≡ k
-  first-set-here [] k y h l e = absurd (omega arith)
-  first-set-here (x ∷ xs) zero y h l e = rw e
-  first-set-here (x ∷ xs) (suc k) y h l e = go (first-set-here xs k y) (p x) h
+  first_set_here : (xs : List X) (k : ℕ) (y : X) → k ≤ first_by p xs → k < length xs → p y ≡ true → first_by p (set xs k y) ≡ k
+  first_set_here [] k y h l e = absurd (omega arith)
+  first_set_here (x ∷ xs) zero y h l e = rw e
+  first_set_here (x ∷ xs) (suc k) y h l e = go (first_set_here xs k y) (p x) h
     where
       go : (k ≤ first_by p xs → k < length xs → p y ≡ true → first_by p (set xs k y) ≡ k) → (v : Bool) → suc k ≤ cond v 0 (suc (first_by p xs)) → cond v 0 (suc (first_by p (set xs k y))) ≡ suc k
       go ih true h = absurd (omega arith)
@@ -69,41 +69,41 @@ module _ (b : Box) (ok : Steady b) (s : ℕ) (p : List ℕ) where
   handles (H.turns reason) e = turns reason
   handles (H.shows {m = m} room d) e =
       let bytes = bytes_of (reply_to b.contents m) in
-      let l = reply-size b.contents ok.sound p m e in
+      let l = reply_size b.contents ok.sound p m e in
       let h = room.reply in
-      rw (part_reply b.slab b.reply bytes (omega arith)) (shows d bytes refl (reply-back b.contents ok.sound p m e))
+      rw (part_reply b.slab b.reply bytes (omega arith)) (shows d bytes refl (reply_back b.contents ok.sound p m e))
   handles (H.again {m = m} room t h n) e =
       rw (part_row b.slab b.reply (place b s) (record_at b (place b s)).length h (ok.short (place b s)) room.slab) (again t h n)
   handles (H.carries_out {m = m} {k = k} room t h) e =
       let bytes = bytes_of (reply_to b.contents m) in
-      let l = reply-size b.contents ok.sound p m e in
+      let l = reply_size b.contents ok.sound p m e in
       let low = serves_low h in
-      let full = row-length b.slab k bytes low (omega arith) room.slab in
+      let full = row_length b.slab k bytes low (omega arith) room.slab in
       let f = room.slab in
       rw (part_row (rowed b.slab k bytes) b.reply k (length bytes) low (omega arith) (omega arith), row_here b.slab k bytes low (omega arith) room.slab)
-      (carries_out t h room.slab bytes refl l (reply-back b.contents ok.sound p m e))
+      (carries_out t h room.slab bytes refl l (reply_back b.contents ok.sound p m e))
 
   pub handling : Handles b s (packet_of p) (replied_with (handled b s p).answer (handled b s p).after.slab (handled b s p).after.reply) (handled b s p).after
   handling = handles (handled_view b s p) refl
 
 -- the box stays steady
 module _ (b : Box) (ok : Steady b) where
-  noted-short : (k n : ℕ) (y : SenderRecord) → k < 16 → y.length ≤ 512 → (get_or (set b.records k y) n blank).length ≤ 512
-  noted-short k n y low h = go (cases_eq n k)
+  noted_short : (k n : ℕ) (y : SenderRecord) → k < 16 → y.length ≤ 512 → (get_or (set b.records k y) n blank).length ≤ 512
+  noted_short k n y low h = go (cases_eq n k)
     where
       go : (n ≡ k) ⊎ (n ≡ k → ⊥) → (get_or (set b.records k y) n blank).length ≤ 512
       go (inl e) = let l = ok.sixteen in rw (e, get_or-set_same b.records k y blank (omega arith)) h
       go (inr d) = rw (get_or-set_other b.records k n y blank d) (ok.short n)
 
-  steady-next : (s : ℕ) {r : Result Message Refusal} {t : Result (List ℕ) Refusal} {b' : Box} → Sound b'.contents → Handles b s r t b' → Steady b'
-  steady-next s g (turns reason) = ok
-  steady-next s g (shows d bytes e back) = record { sixteen = ok.sixteen; sound = ok.sound; short = ok.short }
-  steady-next s g (again t h n) = ok
-  steady-next s g (carries_out {m = m} {k = k} t h full bytes e small back) =
+  steady_next : (s : ℕ) {r : Result Message Refusal} {t : Result (List ℕ) Refusal} {b' : Box} → Sound b'.contents → Handles b s r t b' → Steady b'
+  steady_next s g (turns reason) = ok
+  steady_next s g (shows d bytes e back) = record { sixteen = ok.sixteen; sound = ok.sound; short = ok.short }
+  steady_next s g (again t h n) = ok
+  steady_next s g (carries_out {m = m} {k = k} t h full bytes e small back) =
       record {
         sixteen = length-set b.records k (noted s m.number (length bytes)) ∙ ok.sixteen;
         sound = g;
-        short = λ n. noted-short k n (noted s m.number (length bytes)) (serves_low h) (omega arith);
+        short = λ n. noted_short k n (noted s m.number (length bytes)) (serves_low h) (omega arith);
       }
 
 blank_short : (n k : ℕ) → (get_or (replicate n blank) k blank).length ≤ 512
@@ -119,7 +119,7 @@ box_steady b ok [] = ok
 box_steady b ok (handle s p r stays ∷ cs) =
     let x = box_after b cs in
     let i = box_steady b ok cs in
-    steady-next x i s (handled_sound x s i.sound (handled_view x s p)) (handling x i s p)
+    steady_next x i s (handled_sound x s i.sound (handled_view x s p)) (handling x i s p)
 box_steady b ok (owner_write k t text code ∷ cs) =
     let i = box_steady b ok cs in
     let c = (box_after b cs).contents in
@@ -171,45 +171,45 @@ served_other b ok f s n (fresh h e) d =
 
 -- what is kept of one sender, when a packet of a sender was handled
 module _ (b : Box) (ok : Steady b) (s : ℕ) (l : List Carrying) (t : Keeps b s l) where
-  tells-other : (b' : Box) (j : ℕ) → record_at b' j ≡ record_at b j → ((n : ℕ) → n ≤ 512 → in_row b'.slab j n ≡ in_row b.slab j n) → Tells b j l → Tells b' j l
-  tells-other b' j e rows h = go l h
+  tells_other : (b' : Box) (j : ℕ) → record_at b' j ≡ record_at b j → ((n : ℕ) → n ≤ 512 → in_row b'.slab j n ≡ in_row b.slab j n) → Tells b j l → Tells b' j l
+  tells_other b' j e rows h = go l h
     where
       go : (xs : List Carrying) → Tells b j xs → Tells b' j xs
       go [] h = h
       go (x ∷ xs) h = (h.0 ∙ sym (ap (λ (y : SenderRecord). y.newest) e), h.1 ∙ sym (rows (record_at b j).length (ok.short j)) ∙ ap (λ (y : SenderRecord). in_row b'.slab j y.length) (sym e))
 
-  keeps-carried : (f : ℕ) (m : Message) (k : ℕ) (bytes : List ℕ) → (f ≡ s → ⊥) → Serves b f m.number k → 8192 ≤ length b.slab → length bytes ≤ 485 → Keeps (carried b f m k bytes).after s l
-  keeps-carried f m k bytes d h full small =
+  keeps_carried : (f : ℕ) (m : Message) (k : ℕ) (bytes : List ℕ) → (f ≡ s → ⊥) → Serves b f m.number k → 8192 ≤ length b.slab → length bytes ≤ 485 → Keeps (carried b f m k bytes).after s l
+  keeps_carried f m k bytes d h full small =
       let y = noted f m.number (length bytes) in
       let b' = (carried b f m k bytes).after in
       let low = serves_low h in
       let never = served_other b ok f s m.number h d in
-      let same : place b' s ≡ place b s = first-set-other (is_of s) b.records k y blank never (ne_eqb f s d) in
+      let same : place b' s ≡ place b s = first_set_other (is_of s) b.records k y blank never (ne_eqb f s d) in
       record {
         newest = λ z.
             let w : place b s < 16 = omega arith in
             let q = ok.sixteen in
             let apart : place b s ≡ k → ⊥ = λ e. true≢false (sym (first_passes (is_of s) b.records blank (omega arith)) ∙ ap (λ (i : ℕ). is_of s (record_at b i)) e ∙ never) in
             subst (λ (i : ℕ). Tells b' i l) (sym same)
-            (tells-other b' (place b s) (get_or-set_other b.records k (place b s) y blank apart) (λ n i. row_other b.slab k bytes low (omega arith) full (place b s) n apart i) (t.newest w));
+            (tells_other b' (place b s) (get_or-set_other b.records k (place b s) y blank apart) (λ n i. row_other b.slab k bytes low (omega arith) full (place b s) n apart i) (t.newest w));
         none = λ z. t.none (omega arith);
         order = t.order;
       }
 
-  keeps-other : (f : ℕ) {r : Result Message Refusal} {a : Result (List ℕ) Refusal} {b' : Box} → (f ≡ s → ⊥) → Handles b f r a b' → Keeps b' s l
-  keeps-other f d (turns reason) = t
-  keeps-other f d (shows z bytes e back) = record { newest = t.newest; none = t.none; order = t.order }
-  keeps-other f d (again z h n) = t
-  keeps-other f d (carries_out {m = m} {k = k} z h full bytes e small back) = keeps-carried f m k bytes d h full small
+  keeps_other : (f : ℕ) {r : Result Message Refusal} {a : Result (List ℕ) Refusal} {b' : Box} → (f ≡ s → ⊥) → Handles b f r a b' → Keeps b' s l
+  keeps_other f d (turns reason) = t
+  keeps_other f d (shows z bytes e back) = record { newest = t.newest; none = t.none; order = t.order }
+  keeps_other f d (again z h n) = t
+  keeps_other f d (carries_out {m = m} {k = k} z h full bytes e small back) = keeps_carried f m k bytes d h full small
 
-  keeps-new : (m : Message) (k : ℕ) (bytes : List ℕ) → Serves b s m.number k → 8192 ≤ length b.slab → length bytes ≤ 485
+  keeps_new : (m : Message) (k : ℕ) (bytes : List ℕ) → Serves b s m.number k → 8192 ≤ length b.slab → length bytes ≤ 485
       → Keeps (carried b s m k bytes).after s (record { number = m.number; request = m.content; reply = bytes } ∷ l)
-  keeps-new m k bytes h full small =
+  keeps_new m k bytes h full small =
       let y = noted s m.number (length bytes) in
       let b' = (carried b s m k bytes).after in
       let low = serves_low h in
       let q = ok.sixteen in
-      let here : place b' s ≡ k = first-set-here (is_of s) b.records k y (serves-first h) (omega arith) (eqb_self s) in
+      let here : place b' s ≡ k = first_set_here (is_of s) b.records k y (serves_first h) (omega arith) (eqb_self s) in
       let noted_here : record_at b' k ≡ y = get_or-set_same b.records k y blank (omega arith) in
       record {
         newest = λ z.
@@ -219,9 +219,9 @@ module _ (b : Box) (ok : Steady b) (s : ℕ) (l : List Carrying) (t : Keeps b s 
         order = (serves_above l t h, t.order);
       }
     where
-      serves-first : {j : ℕ} → Serves b s m.number j → j ≤ place b s
-      serves-first (known h n) = omega arith
-      serves-first (fresh h n) = omega arith
+      serves_first : {j : ℕ} → Serves b s m.number j → j ≤ place b s
+      serves_first (known h n) = omega arith
+      serves_first (fresh h n) = omega arith
 
 carries_turned : (r : Result Message Refusal) (reason : Refusal) (stays : Bool) (l : List Carrying) → carries r (Err reason) stays l ≡ l
 carries_turned (Err g) reason stays l = refl
@@ -256,7 +256,7 @@ module _ (b : Box) (ok : Steady b) (s : ℕ) (l : List Carrying) (t : Keeps b s 
   keeps_same (shows {m = m} d bytes e back) stays st = let z : transacts m.content ≡ false = ap transacts d in rw z (record { newest = t.newest; none = t.none; order = t.order })
   keeps_same (again {m = m} z h n) stays st = rw (z, st refl, repeats_it b (place b s) m.number l (t.newest h) n) t
   keeps_same (carries_out {m = m} {k = k} z h full bytes e small back) stays st =
-      rw (z, repeats_not m.number bytes stays l (serves_above l t h)) (keeps-new b ok s l t m k bytes h full small)
+      rw (z, repeats_not m.number bytes stays l (serves_above l t h)) (keeps_new b ok s l t m k bytes h full small)
 
 -- over the calls of one box
 abbrev pub BoxRun : Box → List BoxCall → Type 0
@@ -268,7 +268,7 @@ told_by b f p = replied_with (handled b f p).answer (handled b f p).after.slab (
 
 call_keeps : (b : Box) → Steady b → (s : ℕ) (l : List Carrying) → Keeps b s l → (f : ℕ) (p : List ℕ) (a : Result (List ℕ) Refusal) (stays : Bool) → BoxAnswers b (handle f p a stays)
     → (v : Bool) → eqb f s ≡ v → Keeps (handled b f p).after s (cond v (carries (packet_of p) a stays l) l)
-call_keeps b ok s l t f p a stays h false e = keeps-other b ok s l t f (eqb-false f s e) (handling b ok f p)
+call_keeps b ok s l t f p a stays h false e = keeps_other b ok s l t f (eqb-false f s e) (handling b ok f p)
 call_keeps b ok s l t f p a stays h true e =
     let z = eqb-true f s e in
     let u : Keeps b f l = subst (λ (q : ℕ). Keeps b q l) (sym z) t in

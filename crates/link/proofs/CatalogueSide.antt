@@ -22,10 +22,10 @@ use Rattle.catalogue.specs.Withdrawing.{Withdrawing, count_withdrawn}
 use Rattle.link.specs.Calls.{Order, allowed, requested, Narrow, Opened, Polled, CatalogueCall, enlist, open_order, poll, withdraw, receive, discover, Mem, opened_with, polled_with}
 use Rattle.link.specs.Runs.{Catalogue, catalogue_next, CatalogueAnswers, catalogue_after}
 use Rattle.link.specs.Transactions.{enlisted, place_of, Move, opening, failing, withdrawing, answering, moves, waits, one, times, openings, settlings, SettlesWaiting, OpenedBelow, NumbersRise, tally, sum_below}
-use Rattle.link.proofs.Basics.{eqb_self, first-until, first_map}
-use Rattle.link.proofs.Rows.{row-length, row_here, row_other}
-use Rattle.link.proofs.Asked.{asked-size}
-use Rattle.link.proofs.Views.{Enlists, enlists_not, enlists_new, enlists_view, Opens, opens_not, opens-new, opens-view, Polls, polls-not, polls-rests, polls-again, polls-fails, polls-view, Withdraws, withdraws-nobody, withdraws-none, withdraws-done, withdraws-view, Receives, receives-not, receives-ok, receives-view}
+use Rattle.link.proofs.Basics.{eqb_self, first_until, first_map}
+use Rattle.link.proofs.Rows.{row_length, row_here, row_other}
+use Rattle.link.proofs.Asked.{asked_size}
+use Rattle.link.proofs.Views.{Enlists, enlists_not, enlists_new, enlists_view, Opens, opens_not, opens_new, opens_view, Polls, polls_not, polls_rests, polls_again, polls_fails, polls_view, Withdraws, withdraws_nobody, withdraws_none, withdraws_done, withdraws_view, Receives, receives_not, receives_ok, receives_view}
 
 -- the transaction that waits at the k-th partner: it alone waits, as it was opened, and its packet stands in the row
 pub record WaitsFor (slab : List ℕ) (k : ℕ) (w : Waiting) (ms : List Move) : Type 0 where
@@ -42,7 +42,7 @@ pub record WaitsFor (slab : List ℕ) (k : ℕ) (w : Waiting) (ms : List Move) :
   pub packet : in_row slab k w.length ≡ bytes_of (asked w.number (requested order))
 
 pub short : {slab : List ℕ} {k : ℕ} {w : Waiting} {ms : List Move} → WaitsFor slab k w ms → w.length ≤ 512
-short {w = w} x = let z = asked-size x.order w.number x.allows x.narrow x.small in let e = x.size in omega arith
+short {w = w} x = let z = asked_size x.order w.number x.allows x.narrow x.small in let e = x.size in omega arith
 
 abbrev pub Wait : List ℕ → ℕ → Option Waiting → List Move → Type 0
 Wait slab k None ms = waits ms ≡ []
@@ -72,15 +72,15 @@ none_waits slab k p ms ok e = subst (λ (o : Option Waiting). Wait slab k o ms) 
 
 -- an opening
 module _ (slab : List ℕ) (k : ℕ) (p : Partner) (ms : List Move) (ok : Pair slab k p ms) where
-  open-pair : (t : Timing) (time : ℕ) (o : Order) → k < 16 → 8192 ≤ length slab → p.waiting ≡ None → p.next < 65536 → allowed o ≡ true → Narrow o
+  open_pair : (t : Timing) (time : ℕ) (o : Order) → k < 16 → 8192 ≤ length slab → p.waiting ≡ None → p.next < 65536 → allowed o ≡ true → Narrow o
       → let bytes = bytes_of (asked p.next (requested o)) in
       Pair (rowed slab k bytes) k (asking t time (requested o) (length bytes) p) (opening p.next o ∷ ms)
-  open-pair t time o l f e s a nw =
+  open_pair t time o l f e s a nw =
       let w = none_waits slab k p ms ok e in
-      let z = asked-size o p.next a nw s in
+      let z = asked_size o p.next a nw s in
       let bytes = bytes_of (asked p.next (requested o)) in
       let long : length bytes ≤ 512 = omega arith in
-      let same = row-length slab k bytes l long f in
+      let same = row_length slab k bytes l long f in
       record {
         fresh = λ n. rw (ok.fresh n) (one_more n p.next);
         once = λ n. let a = ok.once n in let b : times n (waits ms) ≡ 0 = rw w in rw w (omega arith);
@@ -104,10 +104,10 @@ module _ (slab : List ℕ) (k : ℕ) (p : Partner) (ms : List Move) (ok : Pair s
 
 -- what another row's write leaves
 module _ (slab : List ℕ) (k j : ℕ) (bytes : List ℕ) (d : j ≡ k → ⊥) (l : k < 16) (long : length bytes ≤ 512) (f : 8192 ≤ length slab) where
-  wait-row : (o : Option Waiting) (ms : List Move) → Wait slab j o ms → Wait (rowed slab k bytes) j o ms
-  wait-row None ms x = x
-  wait-row (Some w) ms x =
-      let same = row-length slab k bytes l long f in
+  wait_row : (o : Option Waiting) (ms : List Move) → Wait slab j o ms → Wait (rowed slab k bytes) j o ms
+  wait_row None ms x = x
+  wait_row (Some w) ms x =
+      let same = row_length slab k bytes l long f in
       record {
         alone = x.alone;
         order = x.order;
@@ -123,16 +123,16 @@ module _ (slab : List ℕ) (k j : ℕ) (bytes : List ℕ) (d : j ≡ k → ⊥) 
       }
 
   pair_row : (p : Partner) (ms : List Move) → Pair slab j p ms → Pair (rowed slab k bytes) j p ms
-  pair_row p ms ok = record { fresh = ok.fresh; once = ok.once; below = ok.below; rise = ok.rise; settles = ok.settles; wait = wait-row p.waiting ms ok.wait }
+  pair_row p ms ok = record { fresh = ok.fresh; once = ok.once; below = ok.below; rise = ok.rise; settles = ok.settles; wait = wait_row p.waiting ms ok.wait }
 
 -- a transaction waits: it is sent again, or settled
 module _ (slab : List ℕ) (k : ℕ) (p : Partner) (ms : List Move) (w : Waiting) (ok : Pair slab k p ms) (e : p.waiting ≡ Some w) where
-  pub waits-for : WaitsFor slab k w ms
-  waits-for = subst (λ (o : Option Waiting). Wait slab k o ms) e ok.wait
+  pub waits_for : WaitsFor slab k w ms
+  waits_for = subst (λ (o : Option Waiting). Wait slab k o ms) e ok.wait
 
-  again-pair : (time : ℕ) → Pair slab k (with_waiting p (longer time w)) ms
-  again-pair time =
-      let x = waits-for in
+  again_pair : (time : ℕ) → Pair slab k (with_waiting p (longer time w)) ms
+  again_pair time =
+      let x = waits_for in
       record {
         fresh = ok.fresh;
         once = ok.once;
@@ -154,9 +154,9 @@ module _ (slab : List ℕ) (k : ℕ) (p : Partner) (ms : List Move) (w : Waiting
         };
       }
 
-  fail-pair : Pair slab k (freed p) (failing ∷ ms)
-  fail-pair =
-      let a = waits-for.alone in
+  fail_pair : Pair slab k (freed p) (failing ∷ ms)
+  fail_pair =
+      let a = waits_for.alone in
       record {
         fresh = ok.fresh;
         once = λ n. let o = ok.once n in let b : times n (waits ms) ≡ one (eqb n w.number) + 0 = rw a in rw a (omega arith);
@@ -166,9 +166,9 @@ module _ (slab : List ℕ) (k : ℕ) (p : Partner) (ms : List Move) (w : Waiting
         wait = rw a;
       }
 
-  withdraw-pair : Pair slab k (freed p) (withdrawing ∷ ms)
-  withdraw-pair =
-      let a = waits-for.alone in
+  withdraw_pair : Pair slab k (freed p) (withdrawing ∷ ms)
+  withdraw_pair =
+      let a = waits_for.alone in
       record {
         fresh = ok.fresh;
         once = λ n. let o = ok.once n in let b : times n (waits ms) ≡ one (eqb n w.number) + 0 = rw a in rw a (omega arith);
@@ -178,9 +178,9 @@ module _ (slab : List ℕ) (k : ℕ) (p : Partner) (ms : List Move) (w : Waiting
         wait = rw a;
       }
 
-  answer-pair : (m : Message) → w.number ≡ m.number → Pair slab k (freed p) (answering m ∷ ms)
-  answer-pair m h =
-      let a : waits ms ≡ m.number ∷ [] = waits-for.alone ∙ ap (λ (q : ℕ). q ∷ []) h in
+  answer_pair : (m : Message) → w.number ≡ m.number → Pair slab k (freed p) (answering m ∷ ms)
+  answer_pair m h =
+      let a : waits ms ≡ m.number ∷ [] = waits_for.alone ∙ ap (λ (q : ℕ). q ∷ []) h in
       record {
         fresh = ok.fresh;
         once = λ n. let o = ok.once n in let b : times n (waits ms) ≡ one (eqb n m.number) + 0 = rw a in rw (a, eqb_self m.number) (omega arith);
@@ -200,17 +200,17 @@ addresses ps = map (λ (p : Partner). p.address) ps
 -- one partner changes, with one move more or none
 module _ (ps : List Partner) (ms : ℕ → List Move) (i : ℕ) (p : Partner) (l : i < length ps) (slab : List ℕ)
     (others : (j : ℕ) → (j ≡ i → ⊥) → Pair slab j (at ps j) (ms j)) where
-  pairs-move : (m : Move) → Pair slab i p (m ∷ ms i) → (j : ℕ) (v : Bool) → eqb i j ≡ v → Pair slab j (at (set ps i p) j) (cond v (m ∷ ms j) (ms j))
-  pairs-move m ok j true d =
+  pairs_move : (m : Move) → Pair slab i p (m ∷ ms i) → (j : ℕ) (v : Bool) → eqb i j ≡ v → Pair slab j (at (set ps i p) j) (cond v (m ∷ ms j) (ms j))
+  pairs_move m ok j true d =
       subst (λ (q : ℕ). Pair slab q (at (set ps i p) q) (m ∷ ms q)) (eqb-true i j d) (subst (λ (q : Partner). Pair slab i q (m ∷ ms i)) (sym (get_or-set_same ps i p (newcomer 0) l)) ok)
-  pairs-move m ok j false d =
+  pairs_move m ok j false d =
       let ne : j ≡ i → ⊥ = λ e. eqb-false i j d (sym e) in
       subst (λ (q : Partner). Pair slab j q (ms j)) (sym (get_or-set_other ps i j p (newcomer 0) ne)) (others j ne)
 
-  pairs-stay : Pair slab i p (ms i) → (j : ℕ) (v : Bool) → eqb i j ≡ v → Pair slab j (at (set ps i p) j) (ms j)
-  pairs-stay ok j true d =
+  pairs_stay : Pair slab i p (ms i) → (j : ℕ) (v : Bool) → eqb i j ≡ v → Pair slab j (at (set ps i p) j) (ms j)
+  pairs_stay ok j true d =
       subst (λ (q : ℕ). Pair slab q (at (set ps i p) q) (ms q)) (eqb-true i j d) (subst (λ (q : Partner). Pair slab i q (ms i)) (sym (get_or-set_same ps i p (newcomer 0) l)) ok)
-  pairs-stay ok j false d =
+  pairs_stay ok j false d =
       let ne : j ≡ i → ⊥ = λ e. eqb-false i j d (sym e) in
       subst (λ (q : Partner). Pair slab j q (ms j)) (sym (get_or-set_other ps i j p (newcomer 0) ne)) (others j ne)
 
@@ -281,39 +281,39 @@ module _ (ps : List Partner) (slab : List ℕ) (counts : Counts) (en : List ℕ)
   apart m j d = rw (ne_eqb i j d)
 
   -- one more waits
-  summed-up : (m : Move) → length (waits (m ∷ ms i)) ≡ suc (length (waits (ms i)))
+  summed_up : (m : Move) → length (waits (m ∷ ms i)) ≡ suc (length (waits (ms i)))
       → waiting_of (λ j. cond (eqb i j) (m ∷ ms j) (ms j)) (length en) ≡ suc (waiting_of ms (length en))
-  summed-up m h =
+  summed_up m h =
       let z = as_many ps slab counts en ms n b in
       sum_up (λ j. length (waits (ms j))) (λ j. length (waits (cond (eqb i j) (m ∷ ms j) (ms j)))) (length en) i (omega arith) (rw (eqb_self i) h) (apart m)
 
   -- one fewer waits
-  summed-down : (m : Move) → length (waits (ms i)) ≡ suc (length (waits (m ∷ ms i)))
+  summed_down : (m : Move) → length (waits (ms i)) ≡ suc (length (waits (m ∷ ms i)))
       → waiting_of ms (length en) ≡ suc (waiting_of (λ j. cond (eqb i j) (m ∷ ms j) (ms j)) (length en))
-  summed-down m h =
+  summed_down m h =
       let z = as_many ps slab counts en ms n b in
       sum_up (λ j. length (waits (cond (eqb i j) (m ∷ ms j) (ms j)))) (λ j. length (waits (ms j))) (length en) i (omega arith) (rw (eqb_self i) h) (λ j d. sym (apart m j d))
 
   -- a move at the i-th partner
-  books-moved : (slab' : List ℕ) (counts' n' : Counts) (m : Move) → Pair slab' i p (m ∷ ms i) → ((j : ℕ) → (j ≡ i → ⊥) → Pair slab' j (at ps j) (ms j))
+  books_moved : (slab' : List ℕ) (counts' n' : Counts) (m : Move) → Pair slab' i p (m ∷ ms i) → ((j : ℕ) → (j ≡ i → ⊥) → Pair slab' j (at ps j) (ms j))
       → counts' ≡ n' → Balanced n' (waiting_of (λ j. cond (eqb i j) (m ∷ ms j) (ms j)) (length en))
       → Books (set ps i p) slab' counts' en (λ j. cond (eqb i j) (m ∷ ms j) (ms j)) n'
-  books-moved slab' counts' n' m ok others e s = record {
+  books_moved slab' counts' n' m ok others e s = record {
     where_to = still;
     distinct = b.distinct;
     few = b.few;
-    pairs = λ j. pairs-move ps ms i p l slab' others m ok j (eqb i j) refl;
+    pairs = λ j. pairs_move ps ms i p l slab' others m ok j (eqb i j) refl;
     counted = e;
     balance = s;
   }
 
   -- no move, as where a packet is sent again
-  books-stayed : (counts' n' : Counts) → Pair slab i p (ms i) → counts' ≡ n' → Balanced n' (waiting_of ms (length en)) → Books (set ps i p) slab counts' en ms n'
-  books-stayed counts' n' ok e s = record {
+  books_stayed : (counts' n' : Counts) → Pair slab i p (ms i) → counts' ≡ n' → Balanced n' (waiting_of ms (length en)) → Books (set ps i p) slab counts' en ms n'
+  books_stayed counts' n' ok e s = record {
     where_to = still;
     distinct = b.distinct;
     few = b.few;
-    pairs = λ j. pairs-stay ps ms i p l slab (λ j _. b.pairs j) ok j (eqb i j) refl;
+    pairs = λ j. pairs_stay ps ms i p l slab (λ j _. b.pairs j) ok j (eqb i j) refl;
     counted = e;
     balance = s;
   }
@@ -323,8 +323,8 @@ module _ (ps : List Partner) (slab : List ℕ) (counts : Counts) (en : List ℕ)
       → waiting_of ms (length en) ≡ suc (waiting_of (λ j. cond (eqb i j) (m ∷ ms j) (ms j)) (length en))
   fewer w e free m ok =
       let y = none_waits slab i p (m ∷ ms i) ok free in
-      let z = (waits-for slab i (at ps i) (ms i) w (b.pairs i) e).alone in
-      summed-down m (ap length z ∙ sym (ap (λ (q : List ℕ). suc (length q)) y))
+      let z = (waits_for slab i (at ps i) (ms i) w (b.pairs i) e).alone in
+      summed_down m (ap length z ∙ sym (ap (λ (q : List ℕ). suc (length q)) y))
 
 -- an address that is new, at the end
 distinct_push : (xs : List ℕ) (x : ℕ) → place_of x xs ≡ length xs → ((i j : ℕ) → i < length xs → j < length xs → get_or xs i 0 ≡ get_or xs j 0 → i ≡ j)
@@ -343,7 +343,7 @@ distinct_push xs x new old i j hi hj e =
     last n z = get_or_push xs x 0 n z
 
     nowhere : (n : ℕ) → n < length xs → get_or xs n 0 ≡ x → ⊥
-    nowhere n h z = let f = first-until (λ b. eqb b x) xs 0 n h (eq-eqb (get_or xs n 0) x z) in omega arith
+    nowhere n h z = let f = first_until (λ b. eqb b x) xs 0 n h (eq-eqb (get_or xs n 0) x z) in omega arith
 
     go : (i < length xs) ⊎ (length xs ≤ i) → (j < length xs) ⊎ (length xs ≤ j) → i ≡ j
     go (inl a) (inl b) = old i j a b (sym (low i a) ∙ e ∙ low j b)
@@ -375,53 +375,53 @@ abbrev pub CatalogueOk : Catalogue → List CatalogueCall → Type 0
 CatalogueOk k cs = Books k.station.partners k.slab k.station.counts (enlisted cs) (λ i. moves i cs) (tally cs)
 
 module _ (k : Catalogue) (cs : List CatalogueCall) (b : CatalogueOk k cs) where
-  enlist-ok : (a : ℕ) {x : Enlisting} → Enlists k.station a x → CatalogueOk (record { station = x.after; slab = k.slab }) (enlist a x.answer ∷ cs)
-  enlist-ok a enlists_not = b
-  enlist-ok a (enlists_new new l) = books_enlisted _ _ _ _ _ _ b a new l
+  enlist_ok : (a : ℕ) {x : Enlisting} → Enlists k.station a x → CatalogueOk (record { station = x.after; slab = k.slab }) (enlist a x.answer ∷ cs)
+  enlist_ok a enlists_not = b
+  enlist_ok a (enlists_new new l) = books_enlisted _ _ _ _ _ _ b a new l
 
-  open-ok : (i t : ℕ) (o : Order) {x : Opening} → Narrow o → Opens k.station k.slab i t (allowed o) (requested o) x
+  open_ok : (i t : ℕ) (o : Order) {x : Opening} → Narrow o → Opens k.station k.slab i t (allowed o) (requested o) x
       → CatalogueOk (record { station = x.after; slab = x.slab }) (open_order i t o (opened_with x.answer x.slab) ∷ cs)
-  open-ok i t o nw (opens_not g) = b
-  open-ok i t o nw (opens-new f l a e s) =
+  open_ok i t o nw (opens_not g) = b
+  open_ok i t o nw (opens_new f l a e s) =
       let ps = k.station.partners in
       let p = at ps i in
-      let z = asked-size o p.next a nw s in
+      let z = asked_size o p.next a nw s in
       let m = as_many ps k.slab _ _ _ _ b in
       let few = b.few in
       let bytes = bytes_of (asked p.next (requested o)) in
       let y = b.balance in
-      let u = summed-up ps k.slab k.station.counts (enlisted cs) (λ j. moves j cs) (tally cs) b i (asking k.station.timing t (requested o) (length bytes) p) l refl (opening p.next o) (length_push (waits (moves i cs)) p.next ∙ add-one (length (waits (moves i cs)))) in
-      books-moved ps k.slab k.station.counts (enlisted cs) (λ j. moves j cs) (tally cs) b i (asking k.station.timing t (requested o) (length bytes) p) l refl
+      let u = summed_up ps k.slab k.station.counts (enlisted cs) (λ j. moves j cs) (tally cs) b i (asking k.station.timing t (requested o) (length bytes) p) l refl (opening p.next o) (length_push (waits (moves i cs)) p.next ∙ add-one (length (waits (moves i cs)))) in
+      books_moved ps k.slab k.station.counts (enlisted cs) (λ j. moves j cs) (tally cs) b i (asking k.station.timing t (requested o) (length bytes) p) l refl
       (rowed k.slab i bytes) (count_opened k.station.counts) (count_opened (tally cs)) (opening p.next o)
-      (open-pair k.slab i p (moves i cs) (b.pairs i) k.station.timing t o (omega arith) f e s a nw)
+      (open_pair k.slab i p (moves i cs) (b.pairs i) k.station.timing t o (omega arith) f e s a nw)
       (λ j d. pair_row k.slab i j bytes d (omega arith) (omega arith) f (at ps j) (moves j cs) (b.pairs j))
       (ap count_opened b.counted) (omega arith)
 
-  poll-ok : (i t : ℕ) {x : Polling} → Polls k.station i t x → CatalogueOk (record { station = x.after; slab = k.slab }) (poll i t (polled_with x.answer k.slab) ∷ cs)
-  poll-ok i t (polls-not g) = b
-  poll-ok i t polls-rests = b
-  poll-ok i t (polls-again w l e) =
+  poll_ok : (i t : ℕ) {x : Polling} → Polls k.station i t x → CatalogueOk (record { station = x.after; slab = k.slab }) (poll i t (polled_with x.answer k.slab) ∷ cs)
+  poll_ok i t (polls_not g) = b
+  poll_ok i t polls_rests = b
+  poll_ok i t (polls_again w l e) =
       let ps = k.station.partners in
       let y = b.balance in
-      books-stayed ps k.slab k.station.counts (enlisted cs) (λ j. moves j cs) (tally cs) b i (with_waiting (at ps i) (longer t w)) l refl
-      (count_repeated k.station.counts) (count_repeated (tally cs)) (again-pair k.slab i (at ps i) (moves i cs) w (b.pairs i) e t) (ap count_repeated b.counted) y
-  poll-ok i t (polls-fails w l e) =
+      books_stayed ps k.slab k.station.counts (enlisted cs) (λ j. moves j cs) (tally cs) b i (with_waiting (at ps i) (longer t w)) l refl
+      (count_repeated k.station.counts) (count_repeated (tally cs)) (again_pair k.slab i (at ps i) (moves i cs) w (b.pairs i) e t) (ap count_repeated b.counted) y
+  poll_ok i t (polls_fails w l e) =
       let ps = k.station.partners in
       let y = b.balance in
-      let ok = fail-pair k.slab i (at ps i) (moves i cs) w (b.pairs i) e in
+      let ok = fail_pair k.slab i (at ps i) (moves i cs) w (b.pairs i) e in
       let u = fewer ps k.slab k.station.counts (enlisted cs) (λ j. moves j cs) (tally cs) b i (freed (at ps i)) l refl w e refl failing ok in
-      books-moved ps k.slab k.station.counts (enlisted cs) (λ j. moves j cs) (tally cs) b i (freed (at ps i)) l refl
+      books_moved ps k.slab k.station.counts (enlisted cs) (λ j. moves j cs) (tally cs) b i (freed (at ps i)) l refl
       k.slab (count_failed k.station.counts) (count_failed (tally cs)) failing ok (λ j _. b.pairs j) (ap count_failed b.counted) (omega arith)
 
-  withdraw-ok : (i : ℕ) {x : Withdrawing} → Withdraws k.station i x → CatalogueOk (record { station = x.after; slab = k.slab }) (withdraw i x.answer ∷ cs)
-  withdraw-ok i (withdraws-nobody l) = b
-  withdraw-ok i (withdraws-none l e) = b
-  withdraw-ok i (withdraws-done w l e) =
+  withdraw_ok : (i : ℕ) {x : Withdrawing} → Withdraws k.station i x → CatalogueOk (record { station = x.after; slab = k.slab }) (withdraw i x.answer ∷ cs)
+  withdraw_ok i (withdraws_nobody l) = b
+  withdraw_ok i (withdraws_none l e) = b
+  withdraw_ok i (withdraws_done w l e) =
       let ps = k.station.partners in
       let y = b.balance in
-      let ok = withdraw-pair k.slab i (at ps i) (moves i cs) w (b.pairs i) e in
+      let ok = withdraw_pair k.slab i (at ps i) (moves i cs) w (b.pairs i) e in
       let u = fewer ps k.slab k.station.counts (enlisted cs) (λ j. moves j cs) (tally cs) b i (freed (at ps i)) l refl w e refl withdrawing ok in
-      books-moved ps k.slab k.station.counts (enlisted cs) (λ j. moves j cs) (tally cs) b i (freed (at ps i)) l refl
+      books_moved ps k.slab k.station.counts (enlisted cs) (λ j. moves j cs) (tally cs) b i (freed (at ps i)) l refl
       k.slab (count_withdrawn k.station.counts) (count_withdrawn (tally cs)) withdrawing ok (λ j _. b.pairs j) (ap count_withdrawn b.counted) (omega arith)
 
   -- the partner that an address is
@@ -430,16 +430,16 @@ module _ (k : Catalogue) (cs : List CatalogueCall) (b : CatalogueOk k cs) where
 
   receive_ok : (f : ℕ) (q : List ℕ) {r : Result Message Refusal} {x : Receiving} → Receives k.station f r x
       → CatalogueOk (record { station = x.after; slab = k.slab }) (receive f q x.answer ∷ cs)
-  receive_ok f q (receives-not g) = b
-  receive_ok f q (receives-ok m w l e a d) =
+  receive_ok f q (receives_not g) = b
+  receive_ok f q (receives_ok m w l e a d) =
       let ps = k.station.partners in
       let i = partner_at ps f in
       let y = b.balance in
-      let ok = answer-pair k.slab i (at ps i) (moves i cs) w (b.pairs i) e m a.number in
+      let ok = answer_pair k.slab i (at ps i) (moves i cs) w (b.pairs i) e m a.number in
       let u = fewer ps k.slab k.station.counts (enlisted cs) (λ j. moves j cs) (tally cs) b i (freed (at ps i)) l refl w e refl (answering m) ok in
       let z = placed f in
       rw (← z)
-      (books-moved ps k.slab k.station.counts (enlisted cs) (λ j. moves j cs) (tally cs) b i (freed (at ps i)) l refl
+      (books_moved ps k.slab k.station.counts (enlisted cs) (λ j. moves j cs) (tally cs) b i (freed (at ps i)) l refl
       k.slab (count_answered k.station.counts) (count_answered (tally cs)) (answering m) ok (λ j _. b.pairs j) (ap count_answered b.counted) (omega arith))
 
 -- each call was answered as the catalogue answers
@@ -448,13 +448,13 @@ CatalogueRun k [] = Unit {0}
 CatalogueRun k (x ∷ cs) = CatalogueRun k cs × CatalogueAnswers (catalogue_after k cs) x
 
 call_ok : (k : Catalogue) (cs : List CatalogueCall) → CatalogueOk k cs → (x : CatalogueCall) → CatalogueAnswers k x → CatalogueOk (catalogue_next k x) (x ∷ cs)
-call_ok k cs b (enlist a r) h = subst (λ (q : Result ℕ Refusal). CatalogueOk (catalogue_next k (enlist a r)) (enlist a q ∷ cs)) (sym h) (enlist-ok k cs b a (enlists_view k.station a))
+call_ok k cs b (enlist a r) h = subst (λ (q : Result ℕ Refusal). CatalogueOk (catalogue_next k (enlist a r)) (enlist a q ∷ cs)) (sym h) (enlist_ok k cs b a (enlists_view k.station a))
 call_ok k cs b (open_order i t o r) h =
     subst (λ (q : Opened). CatalogueOk (catalogue_next k (open_order i t o r)) (open_order i t o q ∷ cs)) (sym h.1)
-    (open-ok k cs b i t o h.0 (opens-view k.station k.slab i t (allowed o) (requested o)))
-call_ok k cs b (poll i t r) h = subst (λ (q : Polled). CatalogueOk (catalogue_next k (poll i t r)) (poll i t q ∷ cs)) (sym h) (poll-ok k cs b i t (polls-view k.station i t))
-call_ok k cs b (withdraw i r) h = subst (λ (q : Result ℕ Refusal). CatalogueOk (catalogue_next k (withdraw i r)) (withdraw i q ∷ cs)) (sym h) (withdraw-ok k cs b i (withdraws-view k.station i))
-call_ok k cs b (receive f p r) h = subst (λ (q : Result Message Refusal). CatalogueOk (catalogue_next k (receive f p r)) (receive f p q ∷ cs)) (sym h) (receive_ok k cs b f p (receives-view k.station f p))
+    (open_ok k cs b i t o h.0 (opens_view k.station k.slab i t (allowed o) (requested o)))
+call_ok k cs b (poll i t r) h = subst (λ (q : Polled). CatalogueOk (catalogue_next k (poll i t r)) (poll i t q ∷ cs)) (sym h) (poll_ok k cs b i t (polls_view k.station i t))
+call_ok k cs b (withdraw i r) h = subst (λ (q : Result ℕ Refusal). CatalogueOk (catalogue_next k (withdraw i r)) (withdraw i q ∷ cs)) (sym h) (withdraw_ok k cs b i (withdraws_view k.station i))
+call_ok k cs b (receive f p r) h = subst (λ (q : Result Message Refusal). CatalogueOk (catalogue_next k (receive f p r)) (receive f p q ∷ cs)) (sym h) (receive_ok k cs b f p (receives_view k.station f p))
 call_ok k cs b (discover d p) h = b
 
 -- a catalogue that was just made

@@ -7,7 +7,7 @@ use Rattle.packet.specs.Messages.{Message, packet_of}
 use Rattle.link.specs.Calls.{not_opened, opens, not_polled, nothing_due, again, failed, CatalogueCall, enlist, open_order, poll, withdraw, receive, discover, BoxCall, handle, owner_write, Event, at_catalogue, at_box, Mem, catalogue_calls, box_calls}
 use Rattle.link.specs.Transactions.{enlisted, place_of, Move, opening, failing, withdrawing, answering, moves}
 use Rattle.link.specs.Carryings.{Carrying, transacts, repeats, carries, carryings}
-use Rattle.link.specs.Runs.{CatalogueAnswers, BoxAnswers, Start, new_box, catalogue-now, box-now, Happens}
+use Rattle.link.specs.Runs.{CatalogueAnswers, BoxAnswers, Start, new_box, catalogue_now, box_now, Happens}
 use Rattle.link.proofs.Basics.{mem_cond}
 use Rattle.link.proofs.CatalogueSide.{CatalogueRun, new_catalogue}
 use Rattle.link.proofs.BoxSide.{BoxRun}
@@ -62,42 +62,42 @@ carrying_stays (owner_write k t text code) cs s y m = m
 
 -- one event more
 module _ (h : List Event) where
-  pub partner-grows : (e : Event) (s i a : ℕ) → PartnerAt (catalogue_calls s h) i a → PartnerAt (catalogue_calls s (e ∷ h)) i a
-  partner-grows (at_box d x) s i a m = m
-  partner-grows (at_catalogue d x) s i a m =
+  pub partner_grows : (e : Event) (s i a : ℕ) → PartnerAt (catalogue_calls s h) i a → PartnerAt (catalogue_calls s (e ∷ h)) i a
+  partner_grows (at_box d x) s i a m = m
+  partner_grows (at_catalogue d x) s i a m =
       elim (eqb d s) as (λ v. PartnerAt (cond v (x ∷ catalogue_calls s h) (catalogue_calls s h)) i a) [ true ↦ partner_stays x (catalogue_calls s h) i a m | false ↦ m ]
 
-  pub move-grows : (e : Event) (s i : ℕ) (y : Move) → Mem y (moves i (catalogue_calls s h)) → Mem y (moves i (catalogue_calls s (e ∷ h)))
-  move-grows (at_box d x) s i y m = m
-  move-grows (at_catalogue d x) s i y m =
+  pub move_grows : (e : Event) (s i : ℕ) (y : Move) → Mem y (moves i (catalogue_calls s h)) → Mem y (moves i (catalogue_calls s (e ∷ h)))
+  move_grows (at_box d x) s i y m = m
+  move_grows (at_catalogue d x) s i y m =
       elim (eqb d s) as (λ v. Mem y (moves i (cond v (x ∷ catalogue_calls s h) (catalogue_calls s h)))) [ true ↦ move_stays x (catalogue_calls s h) i y m | false ↦ m ]
 
-  pub carrying-grows : (e : Event) (s b : ℕ) (y : Carrying) → Mem y (carryings s (box_calls b h)) → Mem y (carryings s (box_calls b (e ∷ h)))
-  carrying-grows (at_catalogue d x) s b y m = m
-  carrying-grows (at_box d x) s b y m =
+  pub carrying_grows : (e : Event) (s b : ℕ) (y : Carrying) → Mem y (carryings s (box_calls b h)) → Mem y (carryings s (box_calls b (e ∷ h)))
+  carrying_grows (at_catalogue d x) s b y m = m
+  carrying_grows (at_box d x) s b y m =
       elim (eqb d b) as (λ v. Mem y (carryings s (cond v (x ∷ box_calls b h) (box_calls b h)))) [ true ↦ carrying_stays x (box_calls b h) s y m | false ↦ m ]
 
 -- each station's own calls were answered as it answers
 module _ (S : Start) where
-  catalogue-run-more : (h : List Event) (c d : ℕ) (x : CatalogueCall) → CatalogueRun (new_catalogue (S.timing c) (S.catalogue_slab c)) (catalogue_calls c h) → CatalogueAnswers (catalogue-now S h d) x
+  catalogue_run_more : (h : List Event) (c d : ℕ) (x : CatalogueCall) → CatalogueRun (new_catalogue (S.timing c) (S.catalogue_slab c)) (catalogue_calls c h) → CatalogueAnswers (catalogue_now S h d) x
       → (v : Bool) → eqb d c ≡ v → CatalogueRun (new_catalogue (S.timing c) (S.catalogue_slab c)) (cond v (x ∷ catalogue_calls c h) (catalogue_calls c h))
-  catalogue-run-more h c d x r a true e = (r, subst (λ (q : ℕ). CatalogueAnswers (catalogue-now S h q) x) (eqb-true d c e) a)
-  catalogue-run-more h c d x r a false e = r
+  catalogue_run_more h c d x r a true e = (r, subst (λ (q : ℕ). CatalogueAnswers (catalogue_now S h q) x) (eqb-true d c e) a)
+  catalogue_run_more h c d x r a false e = r
 
-  pub catalogue-run-of : (h : List Event) → Happens S h → (c : ℕ) → CatalogueRun (new_catalogue (S.timing c) (S.catalogue_slab c)) (catalogue_calls c h)
-  catalogue-run-of [] hp c = tt
-  catalogue-run-of (at_catalogue d x ∷ h) hp c = catalogue-run-more h c d x (catalogue-run-of h hp.0 c) hp.1 (eqb d c) refl
-  catalogue-run-of (at_box d x ∷ h) hp c = catalogue-run-of h hp.0 c
+  pub catalogue_run_of : (h : List Event) → Happens S h → (c : ℕ) → CatalogueRun (new_catalogue (S.timing c) (S.catalogue_slab c)) (catalogue_calls c h)
+  catalogue_run_of [] hp c = tt
+  catalogue_run_of (at_catalogue d x ∷ h) hp c = catalogue_run_more h c d x (catalogue_run_of h hp.0 c) hp.1 (eqb d c) refl
+  catalogue_run_of (at_box d x ∷ h) hp c = catalogue_run_of h hp.0 c
 
-  box-run-more : (h : List Event) (b d : ℕ) (x : BoxCall) → BoxRun (new_box (S.contents b) (S.box_slab b) (S.box_reply b)) (box_calls b h) → BoxAnswers (box-now S h d) x
+  box_run_more : (h : List Event) (b d : ℕ) (x : BoxCall) → BoxRun (new_box (S.contents b) (S.box_slab b) (S.box_reply b)) (box_calls b h) → BoxAnswers (box_now S h d) x
       → (v : Bool) → eqb d b ≡ v → BoxRun (new_box (S.contents b) (S.box_slab b) (S.box_reply b)) (cond v (x ∷ box_calls b h) (box_calls b h))
-  box-run-more h b d x r a true e = (r, subst (λ (q : ℕ). BoxAnswers (box-now S h q) x) (eqb-true d b e) a)
-  box-run-more h b d x r a false e = r
+  box_run_more h b d x r a true e = (r, subst (λ (q : ℕ). BoxAnswers (box_now S h q) x) (eqb-true d b e) a)
+  box_run_more h b d x r a false e = r
 
-  pub box-run-of : (h : List Event) → Happens S h → (b : ℕ) → BoxRun (new_box (S.contents b) (S.box_slab b) (S.box_reply b)) (box_calls b h)
-  box-run-of [] hp b = tt
-  box-run-of (at_box d x ∷ h) hp b = box-run-more h b d x (box-run-of h hp.0 b) hp.1 (eqb d b) refl
-  box-run-of (at_catalogue d x ∷ h) hp b = box-run-of h hp.0 b
+  pub box_run_of : (h : List Event) → Happens S h → (b : ℕ) → BoxRun (new_box (S.contents b) (S.box_slab b) (S.box_reply b)) (box_calls b h)
+  box_run_of [] hp b = tt
+  box_run_of (at_box d x ∷ h) hp b = box_run_more h b d x (box_run_of h hp.0 b) hp.1 (eqb d b) refl
+  box_run_of (at_catalogue d x ∷ h) hp b = box_run_of h hp.0 b
 
   pub older : (e : Event) (h : List Event) → Happens S (e ∷ h) → Happens S h
   older (at_catalogue c x) h hp = hp.0

@@ -37,43 +37,43 @@ pub data Handled (b : Box) (s : ℕ) : Result Message Refusal → Handling → T
 
 module _ (b : Box) (s : ℕ) (room : Roomy b) where
   module _ (m : Message) (t : transacts m.content ≡ true) where
-    by-age : place b s < 16 → (m.number ≡ (record_at b (place b s)).newest → ⊥) → (v : Bool) → ltb m.number (record_at b (place b s)).newest ≡ v
+    by_age : place b s < 16 → (m.number ≡ (record_at b (place b s)).newest → ⊥) → (v : Bool) → ltb m.number (record_at b (place b s)).newest ≡ v
         → Handled b s (Ok m) (by_standing b s m (cond v (Err OldNumber) (Ok (due (place b s)))))
-    by-age h ne true e = turns OldNumber
-    by-age h ne false e = let z = ltb-false _ _ e in carries_out room t (known h (omega arith))
+    by_age h ne true e = turns OldNumber
+    by_age h ne false e = let z = ltb-false _ _ e in carries_out room t (known h (omega arith))
 
-    by-newest : place b s < 16 → (v : Bool) → eqb m.number (record_at b (place b s)).newest ≡ v
+    by_newest : place b s < 16 → (v : Bool) → eqb m.number (record_at b (place b s)).newest ≡ v
         → Handled b s (Ok m) (by_standing b s m (cond v (Ok (repeated (place b s))) (cond (ltb m.number (record_at b (place b s)).newest) (Err OldNumber) (Ok (due (place b s))))))
-    by-newest h true e = again room t h (eqb-true _ _ e)
-    by-newest h false e = by-age h (eqb-false _ _ e) (ltb m.number (record_at b (place b s)).newest) refl
+    by_newest h true e = again room t h (eqb-true _ _ e)
+    by_newest h false e = by_age h (eqb-false _ _ e) (ltb m.number (record_at b (place b s)).newest) refl
 
-    by-vacancy : 16 ≤ place b s → (v : Bool) → ltb (first_by is_empty b.records) 16 ≡ v
+    by_vacancy : 16 ≤ place b s → (v : Bool) → ltb (first_by is_empty b.records) 16 ≡ v
         → Handled b s (Ok m) (by_standing b s m (cond v (Ok (due (first_by is_empty b.records))) (Err Unknown)))
-    by-vacancy h true e = carries_out room t (fresh h (ltb-true _ _ e))
-    by-vacancy h false e = turns Unknown
+    by_vacancy h true e = carries_out room t (fresh h (ltb-true _ _ e))
+    by_vacancy h false e = turns Unknown
 
-    by-record : (v : Bool) → ltb (place b s) 16 ≡ v
+    by_record : (v : Bool) → ltb (place b s) 16 ≡ v
         → Handled b s (Ok m) (by_standing b s m (cond v (by_number (place b s) (record_at b (place b s)).newest m.number) (cond (ltb (first_by is_empty b.records) 16) (Ok (due (first_by is_empty b.records))) (Err Unknown))))
-    by-record true e = by-newest (ltb-true _ _ e) (eqb m.number (record_at b (place b s)).newest) refl
-    by-record false e = by-vacancy (ltb-false _ _ e) (ltb (first_by is_empty b.records) 16) refl
+    by_record true e = by_newest (ltb-true _ _ e) (eqb m.number (record_at b (place b s)).newest) refl
+    by_record false e = by_vacancy (ltb-false _ _ e) (ltb (first_by is_empty b.records) 16) refl
 
-  content-view : (m : Message) (q : Content) → m.content ≡ q → Handled b s (Ok m) (by_content b s m q)
-  content-view m (read_request indices) e = by-record m (ap transacts e) (ltb (place b s) 16) refl
-  content-view m (write_request writes) e = by-record m (ap transacts e) (ltb (place b s) 16) refl
-  content-view m discovery_request e = shows room e
-  content-view m (read_answer readouts) e = turns Direction
-  content-view m (write_answer codes) e = turns Direction
-  content-view m (discovery_answer readouts) e = turns Direction
+  content_view : (m : Message) (q : Content) → m.content ≡ q → Handled b s (Ok m) (by_content b s m q)
+  content_view m (read_request indices) e = by_record m (ap transacts e) (ltb (place b s) 16) refl
+  content_view m (write_request writes) e = by_record m (ap transacts e) (ltb (place b s) 16) refl
+  content_view m discovery_request e = shows room e
+  content_view m (read_answer readouts) e = turns Direction
+  content_view m (write_answer codes) e = turns Direction
+  content_view m (discovery_answer readouts) e = turns Direction
 
-  packet-view : (r : Result Message Refusal) → Handled b s r (by_packet b s r)
-  packet-view (Err reason) = turns reason
-  packet-view (Ok m) = content-view m m.content refl
+  packet_view : (r : Result Message Refusal) → Handled b s r (by_packet b s r)
+  packet_view (Err reason) = turns reason
+  packet_view (Ok m) = content_view m m.content refl
 
 pub handled_view : (b : Box) (s : ℕ) (p : List ℕ) → Handled b s (packet_of p) (handled b s p)
-handled_view b s p = by-room (short b) refl
+handled_view b s p = by_room (short b) refl
   where
-    by-room : (v : Bool) → short b ≡ v → Handled b s (packet_of p) (cond v (refused b ShortMemory) (by_packet b s (packet_of p)))
-    by-room true e = turns ShortMemory
-    by-room false e =
+    by_room : (v : Bool) → short b ≡ v → Handled b s (packet_of p) (cond v (refused b ShortMemory) (by_packet b s (packet_of p)))
+    by_room true e = turns ShortMemory
+    by_room false e =
         let z = or_parts (ltb (length b.slab) 8192) (ltb (length b.reply) 512) e in
-        packet-view b s (record { slab = ltb-false _ _ z.0; reply = ltb-false _ _ z.1 }) (packet_of p)
+        packet_view b s (record { slab = ltb-false _ _ z.0; reply = ltb-false _ _ z.1 }) (packet_of p)

@@ -4,7 +4,7 @@
 use Rattle.std.proofs.Common.{◌≡◌, ℕ, Bool, true, false, cond, ◌&&◌, ◌||◌, eqb, ◌↔◌, List, [], ◌∷◌, get_or, drop, ℤ, pos, negsuc, Some, None, Ok, Err, Option, Result, sym, refl, ap, ◌∙◌, subst, arith}
 use Rattle.std.specs.Str.{bytes_eq}
 use Rattle.std.proofs.lemmas.Slice.Eq.{bytes_eq-Decides}
-use Rattle.std.proofs.lemmas.Bool.{and_parts, and_from, or_parts, eqb-true}
+use Rattle.std.proofs.lemmas.Bool.{and_parts, and_from, or_parts, eqb-true, eqb-false, ne_eqb}
 use Rattle.protocol.specs.Words.{kind_number}
 use Rattle.protocol.specs.declared.refusal.Refusal.{Refusal}
 use Rattle.packet.specs.Messages.{Message, Content, read_request, write_request, discovery_request, read_answer, write_answer, discovery_answer, packet_of}
@@ -106,7 +106,7 @@ record Framed (c : Contents) (i : ℕ) (d : Contents) : Type 0 where
 
 text_framed : (c : Contents) (i : ℕ) (text : List ℕ) {w : Writing} → Texted c i text w → Framed c i w.after
 text_framed c i text (turned n e) = record { low = refl; high = refl; other = λ j d. refl }
-text_framed c i text (taken t v e h at free r) = record { low = refl; high = refl; other = λ j d. rw d refl }
+text_framed c i text (taken t v e h at free r) = record { low = refl; high = refl; other = λ j d. rw (ne_eqb i j (λ z. eqb-false j i d (sym z))) refl }
 
 writes_limits : (ws : List (ℕ × List ℕ)) (c : Contents) → ((after_writes c ws).low ≡ c.low) × ((after_writes c ws).high ≡ c.high)
 writes_limits [] c = (refl, refl)

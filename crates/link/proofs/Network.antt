@@ -26,14 +26,14 @@ use Rattle.catalogue.specs.Receiving.{Receiving}
 use Rattle.link.specs.Calls.{Order, reads, writes, allowed, requested, Narrow, opens, again, CatalogueCall, receive, handle, owner_write, Event, at_catalogue, at_box, Mem, catalogue_calls, box_calls, bytes_in, bytes_at, opened_with, polled_with}
 use Rattle.link.specs.Transactions.{enlisted, place_of, opening, answering, moves}
 use Rattle.link.specs.Carryings.{Carrying, transacts, carries, carryings}
-use Rattle.link.specs.Runs.{Catalogue, BoxAnswers, Sent, earlier, by_opening, by_polling, by_handling, by_discovery, Start, new_box, catalogue-now, box-now, Happens}
+use Rattle.link.specs.Runs.{Catalogue, BoxAnswers, Sent, earlier, by_opening, by_polling, by_handling, by_discovery, Start, new_box, catalogue_now, box_now, Happens}
 use Rattle.link.proofs.Basics.{eqb_self, first_passes}
-use Rattle.link.proofs.Rows.{row_here, row-length, part_row}
-use Rattle.link.proofs.Asked.{asked-back, asked-size, discovery_back, never_discovery}
-use Rattle.link.proofs.Views.{Opens, opens_not, opens-new, opens-view, Polls, polls-not, polls-rests, polls-again, polls-fails, polls-view, Receives, receives-not, receives-ok, receives-view}
-use Rattle.link.proofs.CatalogueSide.{WaitsFor, short, waits-for, at, as_many, CatalogueOk, placed, books_of}
+use Rattle.link.proofs.Rows.{row_here, row_length, part_row}
+use Rattle.link.proofs.Asked.{asked_back, asked_size, discovery_back, never_discovery}
+use Rattle.link.proofs.Views.{Opens, opens_not, opens_new, opens_view, Polls, polls_not, polls_rests, polls_again, polls_fails, polls_view, Receives, receives_not, receives_ok, receives_view}
+use Rattle.link.proofs.CatalogueSide.{WaitsFor, short, waits_for, at, as_many, CatalogueOk, placed, books_of}
 use Rattle.link.proofs.BoxSide.{new_steady, box_steady, box_keeps, handling, Outcome, turned, shown, once_more, carried_out, outcome}
-use Rattle.link.proofs.Growth.{PartnerAt, partner-grows, move-grows, carrying-grows, catalogue-run-of, box-run-of, older}
+use Rattle.link.proofs.Growth.{PartnerAt, partner_grows, move_grows, carrying_grows, catalogue_run_of, box_run_of, older}
 
 -- the station s opened a transaction with b, with this number and request
 pub record OpenedFor (h : List Event) (s b n : ℕ) (request : Content) : Type 0 where
@@ -66,12 +66,12 @@ abbrev pub SentAll : List Event → Type 0
 SentAll h = (f to : ℕ) (q : List ℕ) → Sent h f to q → Kind h f to q
 
 module _ (e : Event) (h : List Event) where
-  opened-grows : (s b n : ℕ) (request : Content) → OpenedFor h s b n request → OpenedFor (e ∷ h) s b n request
-  opened-grows s b n request a = record {
+  opened_grows : (s b n : ℕ) (request : Content) → OpenedFor h s b n request → OpenedFor (e ∷ h) s b n request
+  opened_grows s b n request a = record {
     partner = a.partner;
-    with_box = partner-grows h e s a.partner b a.with_box;
+    with_box = partner_grows h e s a.partner b a.with_box;
     order = a.order;
-    opened = move-grows h e s a.partner (opening n a.order) a.opened;
+    opened = move_grows h e s a.partner (opening n a.order) a.opened;
     same_request = a.same_request;
     allows = a.allows;
     narrow = a.narrow;
@@ -79,13 +79,13 @@ module _ (e : Event) (h : List Event) where
   }
 
   kind_grows : (f to : ℕ) (q : List ℕ) → Kind h f to q → Kind (e ∷ h) f to q
-  kind_grows f to q (request_sent n request a z) = request_sent n request (opened-grows f to n request a) z
+  kind_grows f to q (request_sent n request a z) = request_sent n request (opened_grows f to n request a) z
   kind_grows f to q (discovery_sent z) = discovery_sent z
-  kind_grows f to q (reply_sent x m z) = reply_sent x (carrying-grows h e to f x m) z
+  kind_grows f to q (reply_sent x m z) = reply_sent x (carrying_grows h e to f x m) z
   kind_grows f to q (shown_sent c m d z) = shown_sent c m d z
 
-  carried-grows : (s b : ℕ) (x : Carrying) → CarriedFor h s b x → CarriedFor (e ∷ h) s b x
-  carried-grows s b x a = record { asked_for = opened-grows s b x.number x.request a.asked_for; version = a.version; seen = a.seen; reads_as = a.reads_as }
+  carried_grows : (s b : ℕ) (x : Carrying) → CarriedFor h s b x → CarriedFor (e ∷ h) s b x
+  carried_grows s b x a = record { asked_for = opened_grows s b x.number x.request a.asked_for; version = a.version; seen = a.seen; reads_as = a.reads_as }
 
 -- what is read twice is the same
 one_message : {r : Result Message Refusal} {a b : Message} → r ≡ Ok a → r ≡ Ok b → a ≡ b
@@ -110,7 +110,7 @@ not_answer e = let z : ◌≡◌ {A = ℕ} 0 1 = cc in omega arith
 pub request_of : (h : List Event) → CarriedAll h → (f to : ℕ) (p : List ℕ) → Kind h f to p → (m : Message) → packet_of p ≡ Ok m → transacts m.content ≡ true
     → OpenedFor h f to m.number m.content
 request_of h all f to p (request_sent n request a z) m r t =
-    let back = asked-back a.order n a.allows a.narrow a.small in
+    let back = asked_back a.order n a.allows a.narrow a.small in
     let e : asked n request ≡ m = one_message (ap packet_of z ∙ ap (λ (q : Content). packet_of (bytes_of (asked n q))) a.same_request ∙ back ∙ ap (λ (q : Content). Ok (asked n q)) (sym a.same_request)) r in
     subst (λ (y : Message). OpenedFor h f to y.number y.content) e a
 request_of h all f to p (discovery_sent z) m r t =
@@ -127,31 +127,31 @@ request_of h all f to p (shown_sent c n d z) m r t =
 
 -- the packets that a catalogue gives
 module _ (k : Catalogue) (cs : List CatalogueCall) (b : CatalogueOk k cs) (i t : ℕ) where
-  from-open : (o : Order) (n : ℕ) (q : List ℕ) → Narrow o → {x : Opening} → Opens k.station k.slab i t (allowed o) (requested o) x → opened_with x.answer x.slab ≡ opens n q
+  from_open : (o : Order) (n : ℕ) (q : List ℕ) → Narrow o → {x : Opening} → Opens k.station k.slab i t (allowed o) (requested o) x → opened_with x.answer x.slab ≡ opens n q
       → (allowed o ≡ true) × (n < 65536) × (q ≡ bytes_of (asked n (requested o)))
-  from-open o n q nw (opens_not g) e = let z : ◌≡◌ {A = ℕ} 0 1 = cc in absurd (omega arith)
-  from-open o n q nw (opens-new f l a ew s) e =
+  from_open o n q nw (opens_not g) e = let z : ◌≡◌ {A = ℕ} 0 1 = cc in absurd (omega arith)
+  from_open o n q nw (opens_new f l a ew s) e =
       let next = (at k.station.partners i).next in
       let bytes = bytes_of (asked next (requested o)) in
-      let size = asked-size o next a nw s in
+      let size = asked_size o next a nw s in
       let m = as_many _ _ _ _ _ _ b in
       let few = b.few in
       let low : i < 16 = omega arith in
       let long : length bytes ≤ 512 = omega arith in
-      let same = row-length k.slab i bytes low long f in
+      let same = row_length k.slab i bytes low long f in
       let there : bytes_at (Slab (512 * i) (length bytes)) (rowed k.slab i bytes) [] ≡ bytes =
       ap bytes_in (part_row (rowed k.slab i bytes) [] i (length bytes) low long (omega arith)) ∙ row_here k.slab i bytes low long f in
       let en : next ≡ n = cc in
       let eq : q ≡ bytes = cc in
       (a, subst (λ (y : ℕ). y < 65536) en s, eq ∙ ap (λ (y : ℕ). bytes_of (asked y (requested o))) en)
 
-  from-poll : (q : List ℕ) {x : Polling} → Polls k.station i t x → polled_with x.answer k.slab ≡ again q
+  from_poll : (q : List ℕ) {x : Polling} → Polls k.station i t x → polled_with x.answer k.slab ≡ again q
       → (w : Waiting) × (y : WaitsFor k.slab i w (moves i cs)) × (q ≡ bytes_of (asked w.number (requested y.order)))
-  from-poll q (polls-not g) e = let z : ◌≡◌ {A = ℕ} 0 1 = cc in absurd (omega arith)
-  from-poll q polls-rests e = let z : ◌≡◌ {A = ℕ} 0 1 = cc in absurd (omega arith)
-  from-poll q (polls-fails w l ew) e = let z : ◌≡◌ {A = ℕ} 0 1 = cc in absurd (omega arith)
-  from-poll q (polls-again w l ew) e =
-      let y = waits-for k.slab i (at k.station.partners i) (moves i cs) w (b.pairs i) ew in
+  from_poll q (polls_not g) e = let z : ◌≡◌ {A = ℕ} 0 1 = cc in absurd (omega arith)
+  from_poll q polls_rests e = let z : ◌≡◌ {A = ℕ} 0 1 = cc in absurd (omega arith)
+  from_poll q (polls_fails w l ew) e = let z : ◌≡◌ {A = ℕ} 0 1 = cc in absurd (omega arith)
+  from_poll q (polls_again w l ew) e =
+      let y = waits_for k.slab i (at k.station.partners i) (moves i cs) w (b.pairs i) ew in
       let m = as_many _ _ _ _ _ _ b in
       let few = b.few in
       let there : bytes_at (Slab (512 * i) w.length) k.slab [] ≡ bytes_of (asked w.number (requested y.order)) =
@@ -173,44 +173,44 @@ pub record Found (h : List Event) (c f : ℕ) (m : Message) : Type 0 where
 
 -- one event more, of a history that can happen
 module _ (S : Start) (h : List Event) (hp : Happens S h) (sent : SentAll h) (all : CarriedAll h) where
-  books : (c : ℕ) → CatalogueOk (catalogue-now S h c) (catalogue_calls c h)
-  books c = books_of (S.timing c) (S.catalogue_slab c) (catalogue_calls c h) (catalogue-run-of S h hp c)
+  books : (c : ℕ) → CatalogueOk (catalogue_now S h c) (catalogue_calls c h)
+  books c = books_of (S.timing c) (S.catalogue_slab c) (catalogue_calls c h) (catalogue_run_of S h hp c)
 
-  handled-outcome : (b f : ℕ) (p : List ℕ) (a : Result (List ℕ) Refusal) (stays : Bool) → BoxAnswers (box-now S h b) (handle f p a stays)
+  handled_outcome : (b f : ℕ) (p : List ℕ) (a : Result (List ℕ) Refusal) (stays : Bool) → BoxAnswers (box_now S h b) (handle f p a stays)
       → Outcome (carryings f (box_calls b h)) (packet_of p) a (carries (packet_of p) a stays (carryings f (box_calls b h)))
-  handled-outcome b f p a stays ba =
+  handled_outcome b f p a stays ba =
       let c = S.contents b in
       let steady = box_steady (new_box c (S.box_slab b) (S.box_reply b)) (new_steady c (S.box_slab b) (S.box_reply b) (S.sound b)) (box_calls b h) in
-      let keeps = box_keeps c (S.box_slab b) (S.box_reply b) (S.sound b) (box_calls b h) (box-run-of S h hp b) f in
+      let keeps = box_keeps c (S.box_slab b) (S.box_reply b) (S.sound b) (box_calls b h) (box_run_of S h hp b) f in
       let l = carryings f (box_calls b h) in
       subst (λ (z : Result (List ℕ) Refusal). Outcome (carryings f (box_calls b h)) (packet_of p) z (carries (packet_of p) z stays (carryings f (box_calls b h)))) (sym ba.0)
-      (outcome (box-now S h b) steady f l keeps (handling (box-now S h b) steady f p) stays ba.1.1)
+      (outcome (box_now S h b) steady f l keeps (handling (box_now S h b) steady f p) stays ba.1.1)
 
   module _ (b f : ℕ) (p : List ℕ) (arrived : Sent h f b p) (e : Event) where
-    reply-kind : {r : Result Message Refusal} {a : Result (List ℕ) Refusal} {l : List Carrying} (q : List ℕ) → Outcome (carryings f (box_calls b h)) r a l → a ≡ Ok q
+    reply_kind : {r : Result Message Refusal} {a : Result (List ℕ) Refusal} {l : List Carrying} (q : List ℕ) → Outcome (carryings f (box_calls b h)) r a l → a ≡ Ok q
         → ((x : Carrying) → Mem x l → Mem x (carryings f (box_calls b (e ∷ h)))) → Kind (e ∷ h) b f q
-    reply-kind q (turned reason) ea there = let z : ◌≡◌ {A = ℕ} 0 1 = cc in absurd (omega arith)
-    reply-kind q (shown {m = m} c ok d bytes back) ea there =
+    reply_kind q (turned reason) ea there = let z : ◌≡◌ {A = ℕ} 0 1 = cc in absurd (omega arith)
+    reply_kind q (shown {m = m} c ok d bytes back) ea there =
         let z : bytes ≡ q = cc in
         shown_sent c m d (subst (λ (y : List ℕ). packet_of y ≡ Ok (reply_to c m)) z back)
-    reply-kind q (once_more x m t) ea there = reply_sent x (there x m) (cc)
-    reply-kind q (carried_out {m = m} c ok t bytes back) ea there = reply_sent (record { number = m.number; request = m.content; reply = bytes }) (there _ (inl refl)) (cc)
+    reply_kind q (once_more x m t) ea there = reply_sent x (there x m) (cc)
+    reply_kind q (carried_out {m = m} c ok t bytes back) ea there = reply_sent (record { number = m.number; request = m.content; reply = bytes }) (there _ (inl refl)) (cc)
 
-    carried-new : {r : Result Message Refusal} {a : Result (List ℕ) Refusal} {l : List Carrying} (x : Carrying) → Outcome (carryings f (box_calls b h)) r a l → packet_of p ≡ r
+    carried_new : {r : Result Message Refusal} {a : Result (List ℕ) Refusal} {l : List Carrying} (x : Carrying) → Outcome (carryings f (box_calls b h)) r a l → packet_of p ≡ r
         → (Mem x (carryings f (box_calls b h)) → CarriedFor (e ∷ h) f b x) → Mem x l → CarriedFor (e ∷ h) f b x
-    carried-new x (turned reason) er old m = old m
-    carried-new x (shown c ok d bytes back) er old m = old m
-    carried-new x (once_more y i t) er old m = old m
-    carried-new x (carried_out c ok t bytes back) er old (inr m) = old m
-    carried-new x (carried_out {m = n} c ok t bytes back) er old (inl z) =
+    carried_new x (turned reason) er old m = old m
+    carried_new x (shown c ok d bytes back) er old m = old m
+    carried_new x (once_more y i t) er old m = old m
+    carried_new x (carried_out c ok t bytes back) er old (inr m) = old m
+    carried_new x (carried_out {m = n} c ok t bytes back) er old (inl z) =
         subst (λ (y : Carrying). CarriedFor (e ∷ h) f b y) z
-        (record { asked_for = opened-grows e h f b n.number n.content (request_of h all f b p (sent f b p arrived) n er t); version = n.version; seen = c; reads_as = back })
+        (record { asked_for = opened_grows e h f b n.number n.content (request_of h all f b p (sent f b p arrived) n er t); version = n.version; seen = c; reads_as = back })
 
-  sent-step : (e : Event) → Happens S (e ∷ h) → SentAll (e ∷ h)
-  sent-step e hp' f to q (earlier s) = kind_grows e h f to q (sent f to q s)
-  sent-step e hp' f to q (by_opening {i = i} {t = t} {n = n} {o = o} l) =
-      let k = catalogue-now S h f in
-      let y = from-open k (catalogue_calls f h) (books f) i t o n q hp'.1.0 (opens-view k.station k.slab i t (allowed o) (requested o)) (sym hp'.1.1) in
+  sent_step : (e : Event) → Happens S (e ∷ h) → SentAll (e ∷ h)
+  sent_step e hp' f to q (earlier s) = kind_grows e h f to q (sent f to q s)
+  sent_step e hp' f to q (by_opening {i = i} {t = t} {n = n} {o = o} l) =
+      let k = catalogue_now S h f in
+      let y = from_open k (catalogue_calls f h) (books f) i t o n q hp'.1.0 (opens_view k.station k.slab i t (allowed o) (requested o)) (sym hp'.1.1) in
       request_sent n (requested o)
       (record {
         partner = i;
@@ -222,52 +222,52 @@ module _ (S : Start) (h : List Event) (hp : Happens S h) (sent : SentAll h) (all
         narrow = hp'.1.0;
         small = y.1;
       }) y.2
-  sent-step e hp' f to q (by_polling {i = i} {t = t} l) =
-      let k = catalogue-now S h f in
-      let y = from-poll k (catalogue_calls f h) (books f) i t q (polls-view k.station i t) (sym hp'.1) in
+  sent_step e hp' f to q (by_polling {i = i} {t = t} l) =
+      let k = catalogue_now S h f in
+      let y = from_poll k (catalogue_calls f h) (books f) i t q (polls_view k.station i t) (sym hp'.1) in
       let n = y.0.number in
       let w = y.1 in
       request_sent n (requested w.order)
-      (opened-grows e h f (get_or (enlisted (catalogue_calls f h)) i 0) n (requested w.order)
+      (opened_grows e h f (get_or (enlisted (catalogue_calls f h)) i 0) n (requested w.order)
       (record { partner = i; with_box = (l, refl); order = w.order; opened = w.opened; same_request = refl; allows = w.allows; narrow = w.narrow; small = w.small })) y.2
-  sent-step e hp' f to q (by_handling {p = p} {stays = stays}) =
-      reply-kind f to p hp'.2 (at_box f (handle to p (Ok q) stays)) q (handled-outcome f to p (Ok q) stays hp'.1) refl (λ x m. rw (eqb_self f) (rw (eqb_self to) m))
-  sent-step e hp' f to q by_discovery = discovery_sent hp'.1
+  sent_step e hp' f to q (by_handling {p = p} {stays = stays}) =
+      reply_kind f to p hp'.2 (at_box f (handle to p (Ok q) stays)) q (handled_outcome f to p (Ok q) stays hp'.1) refl (λ x m. rw (eqb_self f) (rw (eqb_self to) m))
+  sent_step e hp' f to q by_discovery = discovery_sent hp'.1
 
   carried_step : (e : Event) → Happens S (e ∷ h) → CarriedAll (e ∷ h)
-  carried_step (at_catalogue d x) hp' b s y m = carried-grows (at_catalogue d x) h s b y (all b s y m)
+  carried_step (at_catalogue d x) hp' b s y m = carried_grows (at_catalogue d x) h s b y (all b s y m)
   carried_step (at_box d (owner_write k t text code)) hp' b s y m = go (eqb d b) m
     where
       go : (v : Bool) → Mem y (carryings s (cond v (owner_write k t text code ∷ box_calls b h) (box_calls b h))) → CarriedFor (at_box d (owner_write k t text code) ∷ h) s b y
-      go true m = carried-grows (at_box d (owner_write k t text code)) h s b y (all b s y m)
-      go false m = carried-grows (at_box d (owner_write k t text code)) h s b y (all b s y m)
+      go true m = carried_grows (at_box d (owner_write k t text code)) h s b y (all b s y m)
+      go false m = carried_grows (at_box d (owner_write k t text code)) h s b y (all b s y m)
   carried_step (at_box d (handle f p a stays)) hp' b s y m = go (eqb d b) refl m
     where
       e : Event
       e = at_box d (handle f p a stays)
 
       here : eqb d b ≡ true → (v : Bool) → eqb f s ≡ v → Mem y (cond v (carries (packet_of p) a stays (carryings s (box_calls b h))) (carryings s (box_calls b h))) → CarriedFor (e ∷ h) s b y
-      here ed false ef m = carried-grows e h s b y (all b s y m)
+      here ed false ef m = carried_grows e h s b y (all b s y m)
       here ed true ef m =
           let zd = eqb-true d b ed in
           let zf = eqb-true f s ef in
           let m₁ : Mem y (carries (packet_of p) a stays (carryings f (box_calls b h))) = subst (λ (q : ℕ). Mem y (carries (packet_of p) a stays (carryings q (box_calls b h)))) (sym zf) m in
           let m₂ : Mem y (carries (packet_of p) a stays (carryings f (box_calls d h))) = subst (λ (q : ℕ). Mem y (carries (packet_of p) a stays (carryings f (box_calls q h)))) (sym zd) m₁ in
-          let r = carried-new d f p hp'.2 e y (handled-outcome d f p a stays hp'.1) refl (λ o. carried-grows e h f d y (all d f y o)) m₂ in
+          let r = carried_new d f p hp'.2 e y (handled_outcome d f p a stays hp'.1) refl (λ o. carried_grows e h f d y (all d f y o)) m₂ in
           subst (λ (q : ℕ). CarriedFor (e ∷ h) s q y) zd (subst (λ (q : ℕ). CarriedFor (e ∷ h) q d y) zf r)
 
       go : (v : Bool) → eqb d b ≡ v → Mem y (carryings s (cond v (handle f p a stays ∷ box_calls b h) (box_calls b h))) → CarriedFor (e ∷ h) s b y
-      go false ed m = carried-grows e h s b y (all b s y m)
+      go false ed m = carried_grows e h s b y (all b s y m)
       go true ed m = here ed (eqb f s) refl m
 
   -- what receiving accepted
-  accepted : (c f : ℕ) (m : Message) {r : Result Message Refusal} {x : Receiving} → Receives (catalogue-now S h c).station f r x → x.answer ≡ Ok m
+  accepted : (c f : ℕ) (m : Message) {r : Result Message Refusal} {x : Receiving} → Receives (catalogue_now S h c).station f r x → x.answer ≡ Ok m
       → (r ≡ Ok m) × (direction_of m.content ≡ D.Answer) × (command_of m.content ≡ Discovery → ⊥) × (place_of f (enlisted (catalogue_calls c h)) < length (enlisted (catalogue_calls c h)))
-  accepted c f m (receives-not g) e = let z : ◌≡◌ {A = ℕ} 0 1 = cc in absurd (omega arith)
-  accepted c f m (receives-ok n w l ew a d) e =
-      let k = catalogue-now S h c in
+  accepted c f m (receives_not g) e = let z : ◌≡◌ {A = ℕ} 0 1 = cc in absurd (omega arith)
+  accepted c f m (receives_ok n w l ew a d) e =
+      let k = catalogue_now S h c in
       let i = partner_at k.station.partners f in
-      let y = waits-for k.slab i (at k.station.partners i) (moves i (catalogue_calls c h)) w ((books c).pairs i) ew in
+      let y = waits_for k.slab i (at k.station.partners i) (moves i (catalogue_calls c h)) w ((books c).pairs i) ew in
       let z : n ≡ m = cc in
       let many = as_many _ _ _ _ _ _ (books c) in
       let there = placed k (catalogue_calls c h) (books c) f in (
@@ -278,30 +278,30 @@ module _ (S : Start) (h : List Event) (hp : Happens S h) (sent : SentAll h) (all
       )
 
   -- an answer that is none to Discovery is the reply of a carrying out
-  from-box : (c f : ℕ) (m : Message) (p : List ℕ) → packet_of p ≡ Ok m → direction_of m.content ≡ D.Answer → (command_of m.content ≡ Discovery → ⊥) → Kind h f c p
+  from_box : (c f : ℕ) (m : Message) (p : List ℕ) → packet_of p ≡ Ok m → direction_of m.content ≡ D.Answer → (command_of m.content ≡ Discovery → ⊥) → Kind h f c p
       → (x : Carrying) × Mem x (carryings c (box_calls f h)) × (x.number ≡ m.number) × (packet_of x.reply ≡ Ok m)
-  from-box c f m p r d ne (request_sent n request a z) =
-      let back = asked-back a.order n a.allows a.narrow a.small in
+  from_box c f m p r d ne (request_sent n request a z) =
+      let back = asked_back a.order n a.allows a.narrow a.small in
       let e : asked n (requested a.order) ≡ m = one_message (ap packet_of z ∙ ap (λ (q : Content). packet_of (bytes_of (asked n q))) a.same_request ∙ back) r in
       absurd (not_answer (sym (asks_request a.order) ∙ ap (λ (q : Message). direction_of q.content) e ∙ d))
-  from-box c f m p r d ne (discovery_sent z) =
+  from_box c f m p r d ne (discovery_sent z) =
       let e : asked 0 discovery_request ≡ m = one_message (ap packet_of z ∙ discovery_back) r in
       absurd (not_answer (ap (λ (q : Message). direction_of q.content) e ∙ d))
-  from-box c f m p r d ne (reply_sent x i z) =
+  from_box c f m p r d ne (reply_sent x i z) =
       let a = all f c x i in
       let back : packet_of x.reply ≡ Ok m = ap packet_of (sym z) ∙ r in
       let e : answered a.version x.number (replied a.seen x.request) ≡ m = one_message a.reads_as back in
       (x, i, ap (λ (q : Message). q.number) e, back)
-  from-box c f m p r d ne (shown_sent s n dq z) =
+  from_box c f m p r d ne (shown_sent s n dq z) =
       let e : reply_to s n ≡ m = one_message z r in
       absurd (ne (ap (λ (q : Message). command_of q.content) (sym e) ∙ (shown_not s n.content dq).1))
 
-  found-new : (c f : ℕ) (p : List ℕ) (m : Message) → Happens S (at_catalogue c (receive f p (Ok m)) ∷ h) → Found (at_catalogue c (receive f p (Ok m)) ∷ h) c f m
-  found-new c f p m hp' =
+  found_new : (c f : ℕ) (p : List ℕ) (m : Message) → Happens S (at_catalogue c (receive f p (Ok m)) ∷ h) → Found (at_catalogue c (receive f p (Ok m)) ∷ h) c f m
+  found_new c f p m hp' =
       let cs = catalogue_calls c h in
       let e = at_catalogue c (receive f p (Ok m)) in
-      let y = accepted c f m (receives-view (catalogue-now S h c).station f p) (sym hp'.1) in
-      let x = from-box c f m p y.0 y.1 y.2 (sent f c p hp'.2) in
+      let y = accepted c f m (receives_view (catalogue_now S h c).station f p) (sym hp'.1) in
+      let x = from_box c f m p y.0 y.1 y.2 (sent f c p hp'.2) in
       let a = (all f c x.0 x.1).asked_for in
       let i = place_of f (enlisted cs) in
       let here : get_or (enlisted cs) i 0 ≡ f = eqb-true (get_or (enlisted cs) i 0) f (first_passes (λ b. eqb b f) (enlisted cs) 0 y.3) in
@@ -310,10 +310,10 @@ module _ (S : Start) (h : List Event) (hp : Happens S h) (sent : SentAll h) (all
       let o₂ : Mem (opening m.number a.order) (moves i cs) = subst (λ (q : ℕ). Mem (opening q a.order) (moves i cs)) x.2 o₁ in
       record {
         partner = i;
-        with_box = partner-grows h e c i f (y.3, here);
+        with_box = partner_grows h e c i f (y.3, here);
         settled = rw (eqb_self c) (rw (eqb_self i) (inl refl));
         order = a.order;
-        opened = move-grows h e c i (opening m.number a.order) o₂;
+        opened = move_grows h e c i (opening m.number a.order) o₂;
         carrying = x.0;
         carried_out = x.1;
         same_number = x.2;
@@ -324,12 +324,12 @@ module _ (S : Start) (h : List Event) (hp : Happens S h) (sent : SentAll h) (all
 found_grows : (e : Event) (h : List Event) (c f : ℕ) (m : Message) → Found h c f m → Found (e ∷ h) c f m
 found_grows e h c f m x = record {
   partner = x.partner;
-  with_box = partner-grows h e c x.partner f x.with_box;
-  settled = move-grows h e c x.partner (answering m) x.settled;
+  with_box = partner_grows h e c x.partner f x.with_box;
+  settled = move_grows h e c x.partner (answering m) x.settled;
   order = x.order;
-  opened = move-grows h e c x.partner (opening m.number x.order) x.opened;
+  opened = move_grows h e c x.partner (opening m.number x.order) x.opened;
   carrying = x.carrying;
-  carried_out = carrying-grows h e c f x.carrying x.carried_out;
+  carried_out = carrying_grows h e c f x.carrying x.carried_out;
   same_number = x.same_number;
   same_request = x.same_request;
   told_as = x.told_as;
@@ -341,7 +341,7 @@ module _ (S : Start) where
   all_kinds (e ∷ h) hp =
       let hp' = older S e h hp in
       let n = all_kinds h hp' in
-      (sent-step S h hp' n.0 n.1 e hp, carried_step S h hp' n.0 n.1 e hp)
+      (sent_step S h hp' n.0 n.1 e hp, carried_step S h hp' n.0 n.1 e hp)
 
   pub found_all : (h : List Event) → Happens S h → (c f : ℕ) (p : List ℕ) (m : Message) → Mem (at_catalogue c (receive f p (Ok m))) h → Found h c f m
   found_all [] hp c f p m i = absurd i
@@ -349,4 +349,4 @@ module _ (S : Start) where
   found_all (e ∷ h) hp c f p m (inl z) =
       let hp' = older S e h hp in
       let n = all_kinds h hp' in
-      subst (λ (y : Event). Found (y ∷ h) c f m) (sym z) (found-new S h hp' n.0 n.1 c f p m (subst (λ (y : Event). Happens S (y ∷ h)) z hp))
+      subst (λ (y : Event). Found (y ∷ h) c f m) (sym z) (found_new S h hp' n.0 n.1 c f p m (subst (λ (y : Event). Happens S (y ∷ h)) z hp))

@@ -3,11 +3,11 @@ use Rattle.std.proofs.Common.{◌≡◌, ℕ, Bool, true, false, cond, eqb, ◌�
 use lib.Utf8.{encode}
 use Rattle.std.specs.Fmt.{digits}
 use Rattle.std.specs.Str.{chars}
-use Rattle.std.proofs.lemmas.Bool.{eqb-true, ne_eqb}
+use Rattle.std.proofs.lemmas.Bool.{eqb-true, eqb-false, ne_eqb}
 use Rattle.store.specs.Contents.{Sound, ValidIn, inside}
 use Rattle.mount_box.specs.Handling.{handled}
 use Rattle.link.specs.Calls.{Event}
-use Rattle.link.specs.Runs.{box-now, Happens, earlier, by_opening, by_polling, by_handling}
+use Rattle.link.specs.Runs.{box_now, Happens, earlier, by_opening, by_polling, by_handling}
 use Rattle.link.specs.Witness.{pointed, first_contents, start, packet_0, packet_1, packet_2, packet_3, carried_out, repeated, answered, given_up, answered_later, overtaken, withdrawn, night, Witnessed}
 use Rattle.link.proofs.Marks.{stays, marked}
 
@@ -36,64 +36,67 @@ first_sound = record { ordered = omega arith; narrow = omega arith; bounded = fi
 
 module _ (s : Sound first_contents) where
   -- the mark of a packet that arrives at the box
-  mark : (h : List Event) (p : List ℕ) → (stays (box-now (start s) h 1) 0 p ≡ true) ↔ ((handled (box-now (start s) h 1) 0 p).after.contents ≡ (box-now (start s) h 1).contents)
-  mark h p = marked (box-now (start s) h 1) 0 p
+  mark : (h : List Event) (p : List ℕ) → (stays (box_now (start s) h 1) 0 p ≡ true) ↔ ((handled (box_now (start s) h 1) 0 p).after.contents ≡ (box_now (start s) h 1).contents)
+  mark h p = marked (box_now (start s) h 1) 0 p
 
-  carried-happens : Happens (start s) carried_out
+  carried_happens : Happens (start s) carried_out
   unfolding chars encode digits
-  carried-happens = (
+  carried_happens = (
     (((tt, refl, tt), ((omega arith, (omega arith, (omega arith, tt))), refl), tt), refl, tt),
     (refl, mark (drop 1 carried_out) packet_0),
     earlier (by_opening (omega arith)),
   )
 
-  repeated-happens : Happens (start s) repeated
+  repeated_happens : Happens (start s) repeated
   unfolding chars encode digits
-  repeated-happens = (carried-happens, (refl, mark carried_out packet_0), earlier (earlier (by_opening (omega arith))))
+  repeated_happens = (carried_happens, (refl, mark carried_out packet_0), earlier (earlier (by_opening (omega arith))))
 
-  answered-happens : Happens (start s) answered
+  answered_happens : Happens (start s) answered
   unfolding chars encode digits
-  answered-happens = ((repeated-happens, refl, by_handling), refl, earlier by_handling)
+  answered_happens = ((repeated_happens, refl, by_handling), refl, earlier by_handling)
 
-  given-up-happens : Happens (start s) given_up
+  given_up_happens : Happens (start s) given_up
   unfolding chars encode digits
-  given-up-happens = ((((answered-happens, ((omega arith, (omega arith, (omega arith, tt))), refl), tt), refl, tt), refl, tt), refl, tt)
+  given_up_happens = ((((answered_happens, ((omega arith, (omega arith, (omega arith, tt))), refl), tt), refl, tt), refl, tt), refl, tt)
 
-  later-happens : Happens (start s) answered_later
+  later_happens : Happens (start s) answered_later
   unfolding chars encode digits
-  later-happens = (
-    ((given-up-happens, ((omega arith, (omega arith, (omega arith, tt))), refl), tt), (refl, mark (drop 2 answered_later) packet_2), by_opening (omega arith)),
+  later_happens = (
+    ((given_up_happens, ((omega arith, (omega arith, (omega arith, tt))), refl), tt), (refl, mark (drop 2 answered_later) packet_2), by_opening (omega arith)),
     refl,
     by_handling,
   )
 
-  overtaken-happens : Happens (start s) overtaken
+  overtaken_happens : Happens (start s) overtaken
   unfolding chars encode digits
-  overtaken-happens = (later-happens, (refl, mark answered_later packet_1), earlier (earlier (earlier (earlier (by_polling (omega arith))))))
+  overtaken_happens = (later_happens, (refl, mark answered_later packet_1), earlier (earlier (earlier (earlier (by_polling (omega arith))))))
 
-  withdrawn-happens : Happens (start s) withdrawn
+  withdrawn_happens : Happens (start s) withdrawn
   unfolding chars encode digits
-  withdrawn-happens = (
-    ((((overtaken-happens, ((omega arith, (omega arith, (omega arith, tt))), refl), tt), refl, tt), refl, tt), (refl, mark (drop 2 withdrawn) packet_3), earlier (earlier (by_opening (omega arith)))),
+  withdrawn_happens = (
+    ((((overtaken_happens, ((omega arith, (omega arith, (omega arith, tt))), refl), tt), refl, tt), refl, tt), (refl, mark (drop 2 withdrawn) packet_3), earlier (earlier (by_opening (omega arith)))),
     refl,
     by_handling,
   )
 
-  night-happens : Happens (start s) night
+  night_happens : Happens (start s) night
   unfolding chars encode digits
-  night-happens = (withdrawn-happens, refl, tt)
+  night_happens = (withdrawn_happens, refl, tt)
 
   -- the element at each index after the later write
-  element-there : (i : ℕ) → (box-now (start s) overtaken 1).contents.element i ≡ (pointed (codes "Polaris") 136636418 321350792).element i
+  element_there : (i : ℕ) → (box_now (start s) overtaken 1).contents.element i ≡ (pointed (codes "Polaris") 136636418 321350792).element i
   unfolding chars encode digits
-  element-there i = name (eqb i 100) refl
+  element_there i = name (eqb i 100) refl
     where
       same : ℕ → Type 0
-      same j = (box-now (start s) overtaken 1).contents.element j ≡ (pointed (codes "Polaris") 136636418 321350792).element j
+      same j = (box_now (start s) overtaken 1).contents.element j ≡ (pointed (codes "Polaris") 136636418 321350792).element j
+
+      flip : (k : ℕ) → eqb i k ≡ false → eqb k i ≡ false
+      flip k a = ne_eqb k i (λ z. eqb-false i k a (sym z))
 
       declination : eqb i 100 ≡ false → eqb i 101 ≡ false → (v : Bool) → eqb i 102 ≡ v → same i
       declination a b true c = subst same (sym (eqb-true i 102 c)) refl
-      declination a b false c = rw (a, b, c) refl
+      declination a b false c = rw (a, b, c, flip 100 a, flip 101 b, flip 102 c) refl
 
       ascension : eqb i 100 ≡ false → (v : Bool) → eqb i 101 ≡ v → same i
       ascension a true b = subst same (sym (eqb-true i 101 b)) refl
@@ -107,7 +110,7 @@ pub witnessed : Witnessed
 unfolding chars encode digits
 witnessed = record {
   sound = first_sound;
-  happens = night-happens first_sound;
+  happens = night_happens first_sound;
   settled = refl;
   none_waits = refl;
   counted = refl;
@@ -117,6 +120,6 @@ witnessed = record {
   overtaken_never = (refl, refl);
   refusal_changes_nothing = refl;
   last_name = refl;
-  points_there = λ t. record { low = 100; high = 102; element = λ i. element-there first_sound i t };
+  points_there = λ t. record { low = 100; high = 102; element = λ i. element_there first_sound i t };
   owner_wrote = (refl, refl);
 }

@@ -43,8 +43,8 @@ put_there xs a ys l =
     ap (take (length ys)) (drop_at (take a xs) (ys ++ back) a (length-take-le a xs l)) ∙ take_at ys back (length ys) refl
 
 module _ (slab : List ℕ) (k : ℕ) (bytes : List ℕ) (low : k < 16) (small : length bytes ≤ 512) (full : 8192 ≤ length slab) where
-  pub row-length : length (rowed slab k bytes) ≡ length slab
-  row-length = length_put slab (512 * k) bytes (omega arith)
+  pub row_length : length (rowed slab k bytes) ≡ length slab
+  row_length = length_put slab (512 * k) bytes (omega arith)
 
   pub row_here : in_row (rowed slab k bytes) k (length bytes) ≡ bytes
   row_here = put_there slab (512 * k) bytes (omega arith)

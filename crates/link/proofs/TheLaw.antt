@@ -9,7 +9,7 @@ use Rattle.link.specs.Law.{Exchange, TheLaw}
 use Rattle.link.proofs.AccountsSide.{accounts}
 use Rattle.link.proofs.BoxSide.{box_keeps}
 use Rattle.link.proofs.StoreSide.{box_holds}
-use Rattle.link.proofs.Growth.{catalogue-run-of, box-run-of}
+use Rattle.link.proofs.Growth.{catalogue_run_of, box_run_of}
 use Rattle.link.proofs.Network.{all_kinds, found_all}
 
 below_mem : (l : List Carrying) (n : ℕ) (x : Carrying) → Below n l → Mem x l → x.number < n
@@ -43,11 +43,11 @@ at_most_once (y ∷ l) n o = go (at_most_once l n o.1) (eqb n y.number) refl
 
 module _ (S : Start) (h : List Event) (hp : Happens S h) where
   ordered : (b s : ℕ) → InOrder (carryings s (box_calls b h))
-  ordered b s = (box_keeps (S.contents b) (S.box_slab b) (S.box_reply b) (S.sound b) (box_calls b h) (box-run-of S h hp b) s).order
+  ordered b s = (box_keeps (S.contents b) (S.box_slab b) (S.box_reply b) (S.sound b) (box_calls b h) (box_run_of S h hp b) s).order
 
   exchange : Exchange S h
   exchange = record {
-    accounts = λ c. accounts (S.timing c) (S.catalogue_slab c) (catalogue_calls c h) (catalogue-run-of S h hp c);
+    accounts = λ c. accounts (S.timing c) (S.catalogue_slab c) (catalogue_calls c h) (catalogue_run_of S h hp c);
     answered = λ c f p m i.
         let x = found_all S h hp c f p m i in
         record {
@@ -69,7 +69,7 @@ module _ (S : Start) (h : List Event) (hp : Happens S h) where
         record { partner = a.partner; enlists = a.with_box.0; with_box = a.with_box.1; order = a.order; opened = a.opened; same_request = a.same_request };
     not_twice = λ b s n. at_most_once (carryings s (box_calls b h)) n (ordered b s);
     in_order = ordered;
-    holds = λ b k big. box_holds (S.contents b) (S.box_slab b) (S.box_reply b) (S.sound b) (box_calls b h) (box-run-of S h hp b) k;
+    holds = λ b k big. box_holds (S.contents b) (S.box_slab b) (S.box_reply b) (S.sound b) (box_calls b h) (box_run_of S h hp b) k;
   }
 
 pub the_law : TheLaw

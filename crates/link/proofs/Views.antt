@@ -16,7 +16,7 @@ use Rattle.catalogue.specs.Opening.{Opening, not_opened, partner, opened, openin
 use Rattle.catalogue.specs.Polling.{Polling, not_polled, at_rest, sent_again, given_up, spent, when_due, polling}
 use Rattle.catalogue.specs.Receiving.{Receiving, not_received, agrees, answered, for_waiting, from_partner, by_content, by_packet, receiving}
 use Rattle.catalogue.specs.Withdrawing.{Withdrawing, not_withdrawn, withdrawn, withdrawing}
-use Rattle.link.proofs.Basics.{first-most}
+use Rattle.link.proofs.Basics.{first_most}
 
 none_of : {A : Type 0} (o : Option A) → is_some o ≡ false → o ≡ None
 none_of None e = refl
@@ -38,61 +38,61 @@ enlists_view s a =
     (λ e.
     let p = or_parts (ltb (partner_at s.partners a) (length s.partners)) (leb 16 (length s.partners)) e in
     let l = ltb-false _ _ p.0 in
-    let m = first-most (λ q. eqb q.address a) s.partners in
+    let m = first_most (λ q. eqb q.address a) s.partners in
     enlists_new (omega arith) (leb-false 16 (length s.partners) p.1))
 
 module _ (s : Station) (slab : List ℕ) (k time : ℕ) (allowed : Bool) (content : Content) where
   pub data Opens : Opening → Type 0 where
     opens_not : (g : Refusal) → Opens (not_opened s slab g)
-    opens-new : 8192 ≤ length slab → k < length s.partners → allowed ≡ true → (partner s k).waiting ≡ None → (partner s k).next < 65536
+    opens_new : 8192 ≤ length slab → k < length s.partners → allowed ≡ true → (partner s k).waiting ≡ None → (partner s k).next < 65536
         → Opens (opened s slab k time content (bytes_of (asked (partner s k).next content)))
 
 module _ (s : Station) (slab : List ℕ) (k time : ℕ) (allowed : Bool) (content : Content) where
-  pub opens-view : Opens s slab k time allowed content (opening s slab k time allowed content)
-  opens-view =
+  pub opens_view : Opens s slab k time allowed content (opening s slab k time allowed content)
+  opens_view =
       cond_both (untimely s time) _ _ (Opens s slab k time allowed content) (λ _. opens_not Time)
       (λ _. cond_both (ltb (length slab) 8192) _ _ (Opens s slab k time allowed content) (λ _. opens_not ShortMemory)
       (λ a. cond_both (unknown s k) _ _ (Opens s slab k time allowed content) (λ _. opens_not Unknown)
       (λ b. cond_both (not allowed) _ _ (Opens s slab k time allowed content) (λ _. opens_not Limit)
       (λ c. cond_both (is_some (partner s k).waiting) _ _ (Opens s slab k time allowed content) (λ _. opens_not StillWaits)
       (λ d. cond_both (leb 65536 (partner s k).next) _ _ (Opens s slab k time allowed content) (λ _. opens_not Exhausted)
-      (λ e. opens-new (ltb-false (length slab) 8192 a) (leb-false (length s.partners) k b) (not-false allowed c) (none_of (partner s k).waiting d) (leb-false 65536 (partner s k).next e)))))))
+      (λ e. opens_new (ltb-false (length slab) 8192 a) (leb-false (length s.partners) k b) (not-false allowed c) (none_of (partner s k).waiting d) (leb-false 65536 (partner s k).next e)))))))
 
 module _ (s : Station) (k time : ℕ) where
   pub data Polls : Polling → Type 0 where
-    polls-not : (g : Refusal) → Polls (not_polled s g)
-    polls-rests : Polls (at_rest s time)
-    polls-again : (w : Waiting) → k < length s.partners → (partner s k).waiting ≡ Some w → Polls (sent_again s k time w)
-    polls-fails : (w : Waiting) → k < length s.partners → (partner s k).waiting ≡ Some w → Polls (given_up s k time w)
+    polls_not : (g : Refusal) → Polls (not_polled s g)
+    polls_rests : Polls (at_rest s time)
+    polls_again : (w : Waiting) → k < length s.partners → (partner s k).waiting ≡ Some w → Polls (sent_again s k time w)
+    polls_fails : (w : Waiting) → k < length s.partners → (partner s k).waiting ≡ Some w → Polls (given_up s k time w)
 
 module _ (s : Station) (k time : ℕ) where
-  due-view : k < length s.partners → (o : Option Waiting) → (partner s k).waiting ≡ o → Polls s k time (when_due s k time o)
-  due-view h None e = polls-rests
-  due-view h (Some w) e =
-      cond_both (ltb time w.deadline) _ _ (Polls s k time) (λ _. polls-rests)
-      (λ _. cond_both (spent s.timing w) _ _ (Polls s k time) (λ _. polls-fails w h e) (λ _. polls-again w h e))
+  due_view : k < length s.partners → (o : Option Waiting) → (partner s k).waiting ≡ o → Polls s k time (when_due s k time o)
+  due_view h None e = polls_rests
+  due_view h (Some w) e =
+      cond_both (ltb time w.deadline) _ _ (Polls s k time) (λ _. polls_rests)
+      (λ _. cond_both (spent s.timing w) _ _ (Polls s k time) (λ _. polls_fails w h e) (λ _. polls_again w h e))
 
-  pub polls-view : Polls s k time (polling s k time)
-  polls-view =
-      cond_both (untimely s time) _ _ (Polls s k time) (λ _. polls-not Time)
-      (λ _. cond_both (unknown s k) _ _ (Polls s k time) (λ _. polls-not Unknown)
-      (λ b. due-view (leb-false (length s.partners) k b) (partner s k).waiting refl))
+  pub polls_view : Polls s k time (polling s k time)
+  polls_view =
+      cond_both (untimely s time) _ _ (Polls s k time) (λ _. polls_not Time)
+      (λ _. cond_both (unknown s k) _ _ (Polls s k time) (λ _. polls_not Unknown)
+      (λ b. due_view (leb-false (length s.partners) k b) (partner s k).waiting refl))
 
 module _ (s : Station) (k : ℕ) where
   pub data Withdraws : Withdrawing → Type 0 where
-    withdraws-nobody : length s.partners ≤ k → Withdraws (not_withdrawn s Unknown)
-    withdraws-none : k < length s.partners → (partner s k).waiting ≡ None → Withdraws (not_withdrawn s NoneWaits)
-    withdraws-done : (w : Waiting) → k < length s.partners → (partner s k).waiting ≡ Some w → Withdraws (withdrawn s k (Some w))
+    withdraws_nobody : length s.partners ≤ k → Withdraws (not_withdrawn s Unknown)
+    withdraws_none : k < length s.partners → (partner s k).waiting ≡ None → Withdraws (not_withdrawn s NoneWaits)
+    withdraws_done : (w : Waiting) → k < length s.partners → (partner s k).waiting ≡ Some w → Withdraws (withdrawn s k (Some w))
 
 module _ (s : Station) (k : ℕ) where
-  withdrawn-view : k < length s.partners → (o : Option Waiting) → (partner s k).waiting ≡ o → Withdraws s k (withdrawn s k o)
-  withdrawn-view h None e = withdraws-none h e
-  withdrawn-view h (Some w) e = withdraws-done w h e
+  withdrawn_view : k < length s.partners → (o : Option Waiting) → (partner s k).waiting ≡ o → Withdraws s k (withdrawn s k o)
+  withdrawn_view h None e = withdraws_none h e
+  withdrawn_view h (Some w) e = withdraws_done w h e
 
-  pub withdraws-view : Withdraws s k (withdrawing s k)
-  withdraws-view =
-      cond_both (unknown s k) _ _ (Withdraws s k) (λ b. withdraws-nobody (leb-true (length s.partners) k b))
-      (λ b. withdrawn-view (leb-false (length s.partners) k b) (partner s k).waiting refl)
+  pub withdraws_view : Withdraws s k (withdrawing s k)
+  withdraws_view =
+      cond_both (unknown s k) _ _ (Withdraws s k) (λ b. withdraws_nobody (leb-true (length s.partners) k b))
+      (λ b. withdrawn_view (leb-false (length s.partners) k b) (partner s k).waiting refl)
 
 -- the message agrees with the transaction that waits
 pub record Agrees (w : Waiting) (m : Message) : Type 0 where
@@ -102,8 +102,8 @@ pub record Agrees (w : Waiting) (m : Message) : Type 0 where
 
 module _ (s : Station) (f : ℕ) where
   pub data Receives : Result Message Refusal → Receiving → Type 0 where
-    receives-not : {r : Result Message Refusal} (g : Refusal) → Receives r (not_received s g)
-    receives-ok : (m : Message) (w : Waiting) → partner_at s.partners f < length s.partners → (partner s (partner_at s.partners f)).waiting ≡ Some w
+    receives_not : {r : Result Message Refusal} (g : Refusal) → Receives r (not_received s g)
+    receives_ok : (m : Message) (w : Waiting) → partner_at s.partners f < length s.partners → (partner s (partner_at s.partners f)).waiting ≡ Some w
         → Agrees w m → direction_of m.content ≡ D.Answer → Receives (Ok m) (answered s (partner_at s.partners f) m)
 
 one_command : (c d : Command) → command_number c ≡ command_number d → c ≡ d
@@ -128,28 +128,28 @@ agreed w m e =
     }
 
 module _ (s : Station) (f : ℕ) where
-  waiting-view : (m : Message) → partner_at s.partners f < length s.partners → direction_of m.content ≡ D.Answer
+  waiting_view : (m : Message) → partner_at s.partners f < length s.partners → direction_of m.content ≡ D.Answer
       → (o : Option Waiting) → (partner s (partner_at s.partners f)).waiting ≡ o → Receives s f (Ok m) (for_waiting s (partner_at s.partners f) m o)
-  waiting-view m h d None e = receives-not NoMatch
-  waiting-view m h d (Some w) e =
-      cond_both (agrees w m) _ _ (Receives s f (Ok m)) (λ a. receives-ok m w h e (agreed w m a) d) (λ _. receives-not NoMatch)
+  waiting_view m h d None e = receives_not NoMatch
+  waiting_view m h d (Some w) e =
+      cond_both (agrees w m) _ _ (Receives s f (Ok m)) (λ a. receives_ok m w h e (agreed w m a) d) (λ _. receives_not NoMatch)
 
-  partner-view : (m : Message) → direction_of m.content ≡ D.Answer → Receives s f (Ok m) (from_partner s (partner_at s.partners f) m)
-  partner-view m d =
-      cond_both (unknown s (partner_at s.partners f)) _ _ (Receives s f (Ok m)) (λ _. receives-not Unknown)
-      (λ b. waiting-view m (leb-false _ _ b) d (partner s (partner_at s.partners f)).waiting refl)
+  partner_view : (m : Message) → direction_of m.content ≡ D.Answer → Receives s f (Ok m) (from_partner s (partner_at s.partners f) m)
+  partner_view m d =
+      cond_both (unknown s (partner_at s.partners f)) _ _ (Receives s f (Ok m)) (λ _. receives_not Unknown)
+      (λ b. waiting_view m (leb-false _ _ b) d (partner s (partner_at s.partners f)).waiting refl)
 
-  content-view : (m : Message) (q : Content) → direction_of m.content ≡ direction_of q → Receives s f (Ok m) (by_content s f m q)
-  content-view m (read_request indices) e = receives-not Direction
-  content-view m (write_request writes) e = receives-not Direction
-  content-view m discovery_request e = receives-not Direction
-  content-view m (read_answer readouts) e = partner-view m e
-  content-view m (write_answer codes) e = partner-view m e
-  content-view m (discovery_answer readouts) e = partner-view m e
+  content_view : (m : Message) (q : Content) → direction_of m.content ≡ direction_of q → Receives s f (Ok m) (by_content s f m q)
+  content_view m (read_request indices) e = receives_not Direction
+  content_view m (write_request writes) e = receives_not Direction
+  content_view m discovery_request e = receives_not Direction
+  content_view m (read_answer readouts) e = partner_view m e
+  content_view m (write_answer codes) e = partner_view m e
+  content_view m (discovery_answer readouts) e = partner_view m e
 
-  packet-view : (r : Result Message Refusal) → Receives s f r (by_packet s f r)
-  packet-view (Err g) = receives-not g
-  packet-view (Ok m) = content-view m m.content refl
+  packet_view : (r : Result Message Refusal) → Receives s f r (by_packet s f r)
+  packet_view (Err g) = receives_not g
+  packet_view (Ok m) = content_view m m.content refl
 
-  pub receives-view : (packet : List ℕ) → Receives s f (packet_of packet) (receiving s f packet)
-  receives-view packet = packet-view (packet_of packet)
+  pub receives_view : (packet : List ℕ) → Receives s f (packet_of packet) (receiving s f packet)
+  receives_view packet = packet_view (packet_of packet)

@@ -8,7 +8,7 @@ use Rattle.link.specs.Calls.{Order, requested, CatalogueCall, receive, Event, at
 use Rattle.link.specs.Transactions as T
 use Rattle.link.specs.Transactions.{enlisted, moves, waits, times, openings, settlings, SettlesWaiting, NumbersRise, WithdrawalsTold, tally, waiting_now}
 use Rattle.link.specs.Carryings.{Carrying, carryings, number_in, InOrder, last_write}
-use Rattle.link.specs.Runs.{Catalogue, Start, catalogue-now, box-now, Happens}
+use Rattle.link.specs.Runs.{Catalogue, Start, catalogue_now, box_now, Happens}
 
 -- of one catalogue: each transaction waits until it is settled, and none is settled twice
 pub record Accounts (k : Catalogue) (cs : List CatalogueCall) : Type 0 where
@@ -62,7 +62,7 @@ Holds was is (Some text) = (e : Element) × (d : Datum) × (was ≡ Some e) × (
 
 pub record Exchange (S : Start) (h : List Event) : Type 0 where
   -- transactions wait until they are settled, once, and the counts are those of the calls
-  pub accounts : (c : ℕ) → Accounts (catalogue-now S h c) (catalogue_calls c h)
+  pub accounts : (c : ℕ) → Accounts (catalogue_now S h c) (catalogue_calls c h)
   -- what was settled as answered was carried out by its box exactly once, and the reply told is the box's
   pub answered : (c f : ℕ) (p : List ℕ) (m : Message) → Mem (at_catalogue c (receive f p (Ok m))) h → Answered h c f m
   -- what is carried out was opened, and never twice
@@ -71,7 +71,7 @@ pub record Exchange (S : Start) (h : List Event) : Type 0 where
   -- none is carried out after a later one between the same two stations
   pub in_order : (b s : ℕ) → InOrder (carryings s (box_calls b h))
   -- each element from 100 up holds the value of its last accepted write; its value at the box's making counts as the first
-  pub holds : (b k : ℕ) → 100 ≤ k → Holds ((S.contents b).element k) ((box-now S h b).contents.element k) (last_write k (box_calls b h))
+  pub holds : (b k : ℕ) → 100 ≤ k → Holds ((S.contents b).element k) ((box_now S h b).contents.element k) (last_write k (box_calls b h))
 
 -- every history that can happen keeps the law
 abbrev pub TheLaw : Type 0

@@ -98,15 +98,15 @@ new_box c slab reply = record { records = replicate 16 blank; slab = slab; reply
 
 module _ (S : Start) where
   -- what the catalogue at an address holds after a history
-  abbrev pub catalogue-now : List Event → ℕ → Catalogue
-  catalogue-now h c = catalogue_after (record { station = new_station (S.timing c); slab = S.catalogue_slab c }) (catalogue_calls c h)
+  abbrev pub catalogue_now : List Event → ℕ → Catalogue
+  catalogue_now h c = catalogue_after (record { station = new_station (S.timing c); slab = S.catalogue_slab c }) (catalogue_calls c h)
 
   -- what the box at an address holds after a history
-  abbrev pub box-now : List Event → ℕ → Box
-  box-now h b = box_after (new_box (S.contents b) (S.box_slab b) (S.box_reply b)) (box_calls b h)
+  abbrev pub box_now : List Event → ℕ → Box
+  box_now h b = box_after (new_box (S.contents b) (S.box_slab b) (S.box_reply b)) (box_calls b h)
 
   -- the history can happen
   abbrev pub Happens : List Event → Type 0
   Happens [] = Unit {0}
-  Happens (at_catalogue c x ∷ h) = Happens h × CatalogueAnswers (catalogue-now h c) x × CatalogueArrives h c x
-  Happens (at_box b x ∷ h) = Happens h × BoxAnswers (box-now h b) x × BoxArrives h b x
+  Happens (at_catalogue c x ∷ h) = Happens h × CatalogueAnswers (catalogue_now h c) x × CatalogueArrives h c x
+  Happens (at_box b x ∷ h) = Happens h × BoxAnswers (box_now h b) x × BoxArrives h b x

@@ -18,7 +18,7 @@ use Rattle.store.specs.Contents.{Contents, Element, Sound, free}
 use Rattle.link.specs.Calls.{Order, reads, writes, opens, again, failed, enlist, open_order, poll, withdraw, receive, handle, owner_write, Event, at_catalogue, at_box, catalogue_calls, box_calls}
 use Rattle.link.specs.Transactions.{opening, failing, withdrawing, answering, moves, waits, tally}
 use Rattle.link.specs.Carryings.{Carrying, carryings, last_write}
-use Rattle.link.specs.Runs.{Start, box-now, Happens}
+use Rattle.link.specs.Runs.{Start, box_now, Happens}
 
 -- a text, in forty bytes
 abbrev pub padded : List ℕ → List ℕ
@@ -180,12 +180,12 @@ pub record Witnessed : Type 0 where
   pub sent_again : ((tally (catalogue_calls 0 answered)).repeated ≡ 1) × ((tally (catalogue_calls 0 given_up)).repeated ≡ 3)
   -- a packet that arrives twice is carried out once, and the second time changes nothing at the box
   pub carried_once : (numbers carried_out ≡ 0 ∷ []) × (numbers repeated ≡ 0 ∷ [])
-  pub repeat_changes_nothing : box-now (start sound) repeated 1 ≡ box-now (start sound) carried_out 1
+  pub repeat_changes_nothing : box_now (start sound) repeated 1 ≡ box_now (start sound) carried_out 1
   -- the one that was overtaken is never carried out: it is refused by 11, which changes nothing at the box
   pub overtaken_never : (numbers answered_later ≡ 2 ∷ 0 ∷ []) × (numbers night ≡ 3 ∷ 2 ∷ 0 ∷ [])
-  pub refusal_changes_nothing : box-now (start sound) overtaken 1 ≡ box-now (start sound) answered_later 1
+  pub refusal_changes_nothing : box_now (start sound) overtaken 1 ≡ box_now (start sound) answered_later 1
   -- so the mount points where the later write says, name and angles alike
   pub last_name : last_write 100 (box_calls 1 night) ≡ Some (codes "Polaris")
-  pub points_there : (box-now (start sound) overtaken 1).contents ≡ pointed (codes "Polaris") 136636418 321350792
+  pub points_there : (box_now (start sound) overtaken 1).contents ≡ pointed (codes "Polaris") 136636418 321350792
   -- and what the owner wrote stands
-  pub owner_wrote : (last_write 102 (box_calls 1 night) ≡ Some (codes "321350800")) × ((box-now (start sound) night 1).contents.element 102 ≡ angle 321350800)
+  pub owner_wrote : (last_write 102 (box_calls 1 night) ≡ Some (codes "321350800")) × ((box_now (start sound) night 1).contents.element 102 ≡ angle 321350800)

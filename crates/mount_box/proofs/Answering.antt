@@ -1,5 +1,5 @@
 -- Answers that a writer wrote.
---     read-answers, write-answers, who-answers   from what a store gave
+--     read_answers, write_answers, who_answers   from what a store gave
 --     length_codes                               a code for each write
 --     received_counted                           a message that was received has 1 to 10 groups
 --     discovery_carries                          Discovery is answered in version 1.1
@@ -84,29 +84,29 @@ codes_counted c cs ws e h = counted_as ws cs (sym (ap length e ∙ length_codes 
 
 module _ (c : Contents) (version : Version) (number : ℕ) (r : Result ℕ Refusal) (before after : List ℕ) (room : 512 ≤ length before) where
   -- the answer to a read
-  pub read-answers : (rs : List (Result Value Code)) (is : List ℕ) → map readout_of rs ≡ map (shown c) is → counted is ≡ true
+  pub read_answers : (rs : List (Result Value Code)) (is : List ℕ) → map readout_of rs ≡ map (shown c) is → counted is ≡ true
       → r ≡ (written (readings_allowed rs) (answered version number (read_answer (map readout_of rs))) before).told
       → after ≡ (written (readings_allowed rs) (answered version number (read_answer (map readout_of rs))) before).row
       → Answers (answered version number (read_answer (map (shown c) is))) r before after
-  read-answers rs is e h t w =
+  read_answers rs is e h t w =
       answers_from (readings_allowed rs) (answered version number (read_answer (map readout_of rs))) (answered version number (read_answer (map (shown c) is))) r before after
       (shown_allowed c rs is e h) room (ap (λ xs. answered version number (read_answer xs)) e) t w
 
   -- the answer to a write
-  pub write-answers : (cs : List Code) (ws : List (ℕ × List ℕ)) → cs ≡ write_codes c ws → counted ws ≡ true
+  pub write_answers : (cs : List Code) (ws : List (ℕ × List ℕ)) → cs ≡ write_codes c ws → counted ws ≡ true
       → r ≡ (written (counted cs) (answered version number (write_answer cs)) before).told
       → after ≡ (written (counted cs) (answered version number (write_answer cs)) before).row
       → Answers (answered version number (write_answer (write_codes c ws))) r before after
-  write-answers cs ws e h t w =
+  write_answers cs ws e h t w =
       answers_from (counted cs) (answered version number (write_answer cs)) (answered version number (write_answer (write_codes c ws))) r before after
       (codes_counted c cs ws e h) room (ap (λ xs. answered version number (write_answer xs)) e) t w
 
   -- the answer to Discovery
-  pub who-answers : (x y : Result Value Code) → reading x ≡ read_of c 2 → reading y ≡ read_of c 3
+  pub who_answers : (x y : Result Value Code) → reading x ≡ read_of c 2 → reading y ≡ read_of c 3
       → r ≡ (written (told x && told y) (answered version number (discovery_answer (readout_of x ∷ readout_of y ∷ []))) before).told
       → after ≡ (written (told x && told y) (answered version number (discovery_answer (readout_of x ∷ readout_of y ∷ []))) before).row
       → Answers (answered version number (who c)) r before after
-  who-answers x y d e t w =
+  who_answers x y d e t w =
       let p = read_shown c 2 x d in
       let q = read_shown c 3 y e in
       answers_from (told x && told y) (answered version number (discovery_answer (readout_of x ∷ readout_of y ∷ []))) (answered version number (who c)) r before after

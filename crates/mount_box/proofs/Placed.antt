@@ -17,8 +17,8 @@ module _ (xs bs : List ℕ) (a : ℕ) (room : a + length bs ≤ length xs) where
       let q = length-append (take a xs) (bs ++ drop (a + length bs) xs) in
       omega (arith, front)
 
-  pub piece-put : piece (put_at xs a bs) a (length bs) ≡ Ok bs
-  piece-put =
+  pub piece_put : piece (put_at xs a bs) a (length bs) ≡ Ok bs
+  piece_put =
       let inside = le-leb (a + length bs) (length (put_at xs a bs)) (omega (arith, length_put)) in
       cond-true _ _ _ inside
       ∙ ap (λ q. Ok (take (length bs) q)) (drop_at (take a xs) (bs ++ drop (a + length bs) xs) a front)

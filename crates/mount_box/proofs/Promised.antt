@@ -22,9 +22,9 @@ use Rattle.mount_box.specs.Handling.{Box, Handling, refused, reply_to, discovere
 use Rattle.mount_box.specs.Promises.{Repeats, Groupwise, Groups, Others, ReadsAt, Back}
 use Rattle.mount_box.specs.Views.{outcome}
 use Rattle.mount_box.proofs.Answering.{length_codes}
-use Rattle.mount_box.proofs.Finding.{due-for, known_by, noted-again}
-use Rattle.mount_box.proofs.Placed.{length_put, piece-put, put_outside}
-use Rattle.mount_box.proofs.Replies.{reply-back, reply-size}
+use Rattle.mount_box.proofs.Finding.{due_for, known_by, noted_again}
+use Rattle.mount_box.proofs.Placed.{length_put, piece_put, put_outside}
+use Rattle.mount_box.proofs.Replies.{reply_back, reply_size}
 use Rattle.mount_box.proofs.Served.{handled_long, orders_ask}
 use Rattle.mount_box.proofs.Ways.{Handles, handles, stopped, again, done, told}
 
@@ -86,11 +86,11 @@ record Fits (b : Box) (m : Message) : Type 0 where
 
 fits : (b : Box) (packet : List ℕ) (m : Message) → Sound b.contents → short b ≡ false → packet_of packet ≡ Ok m → direction_of m.content ≡ Request → Fits b m
 fits b packet m sound s p ask =
-    let few : length (reply_bytes b m) ≤ 485 = reply-size b.contents sound packet m p in
+    let few : length (reply_bytes b m) ≤ 485 = reply_size b.contents sound packet m p in
     let q = or_parts (ltb (length b.slab) 8192) (ltb (length b.reply) 512) s in
     let slab : 8192 ≤ length b.slab = ltb-false (length b.slab) 8192 q.0 in
     let reply : 512 ≤ length b.reply = ltb-false (length b.reply) 512 q.1 in
-    record { few = few; back = reply-back b.contents sound packet m p; in_row = λ k h. omega arith; in_reply = omega arith }
+    record { few = few; back = reply_back b.contents sound packet m p; in_row = λ k h. omega arith; in_reply = omega arith }
 
 module _ (b : Box) (sender : ℕ) (packet : List ℕ) (sound : Sound b.contents) (all : (m : Message) → packet_of packet ≡ Ok m → Orders m.content → length b.records ≡ 16) where
   pub repeats : (h : Handling) → Handles b sender packet h → Repeats sender packet h
@@ -101,14 +101,14 @@ module _ (b : Box) (sender : ℕ) (packet : List ℕ) (sound : Sound b.contents)
   repeats h (done w k s t v st) m n place q p o a r u e =
       let f = fits b packet w sound s t (orders_ask w.content v) in
       let sixteen : length b.records ≡ 16 = all w t v in
-      let d = due-for b.records sender w.number (all w t v) k st in
+      let d = due_for b.records sender w.number (all w t v) k st in
       let len = length (reply_bytes b w) in
       let after = (carried b sender w k (reply_bytes b w)).after in
       let number : n.number ≡ w.number = e ∙ ap (λ x. x.number) (same_message packet m w p t) in
       let in' : k < 16 = d.inside in
       let long : short after ≡ false = ap (λ l. ltb l 8192 || ltb (length b.reply) 512) (length_put b.slab (reply_bytes b w) (512 * k) (f.in_row k in')) ∙ s in
       let at : get_or after.records k blank ≡ noted sender w.number len = get_or-set_same b.records k (noted sender w.number len) blank (omega arith) in
-      repeat_kept after sender k q n long r u (ap (standing after.records sender) number ∙ noted-again b.records sender w.number sixteen k len d)
+      repeat_kept after sender k q n long r u (ap (standing after.records sender) number ∙ noted_again b.records sender w.number sixteen k len d)
       ∙ (λ i. record { answer = Ok (Slab (512 * k) (at i).length); after = after })
 
   pub others : (h : Handling) → Handles b sender packet h → Others b sender h
@@ -131,7 +131,7 @@ module _ (b : Box) (sender : ℕ) (packet : List ℕ) (sound : Sound b.contents)
   others h (done w k s t v st) =
       let f = fits b packet w sound s t (orders_ask w.content v) in
       let sixteen : length b.records ≡ 16 = all w t v in
-      let d = due-for b.records sender w.number (all w t v) k st in
+      let d = due_for b.records sender w.number (all w t v) k st in
       let in' : k < 16 = d.inside in
       let len = length (reply_bytes b w) in
       record {
@@ -145,53 +145,53 @@ module _ (b : Box) (sender : ℕ) (packet : List ℕ) (sound : Sound b.contents)
         reply = refl;
       }
 
-  reads-slab : (w : Message) (k : ℕ) (place : Place) → short b ≡ false → packet_of packet ≡ Ok w → Orders w.content → standing b.records sender w.number ≡ Ok (due k) → (carried b sender w k (reply_bytes b w)).answer ≡ Ok place → ReadsAt place (carried b sender w k (reply_bytes b w)).after (reply_to b.contents w)
-  reads-slab w k place s t v st a =
+  reads_slab : (w : Message) (k : ℕ) (place : Place) → short b ≡ false → packet_of packet ≡ Ok w → Orders w.content → standing b.records sender w.number ≡ Ok (due k) → (carried b sender w k (reply_bytes b w)).answer ≡ Ok place → ReadsAt place (carried b sender w k (reply_bytes b w)).after (reply_to b.contents w)
+  reads_slab w k place s t v st a =
       let f = fits b packet w sound s t (orders_ask w.content v) in
       let sixteen : length b.records ≡ 16 = all w t v in
-      let d = due-for b.records sender w.number (all w t v) k st in
+      let d = due_for b.records sender w.number (all w t v) k st in
       let same = ok_same (Slab (512 * k) (length (reply_bytes b w))) place a in
       record {
         bytes = reply_bytes b w;
-        part = ap (λ x. part_of x (rowed b.slab k (reply_bytes b w)) b.reply) (sym same) ∙ piece-put b.slab (reply_bytes b w) (512 * k) (f.in_row k d.inside);
+        part = ap (λ x. part_of x (rowed b.slab k (reply_bytes b w)) b.reply) (sym same) ∙ piece_put b.slab (reply_bytes b w) (512 * k) (f.in_row k d.inside);
         few = f.few;
         read = f.back;
       }
 
-  reads-reply : (w : Message) (place : Place) → short b ≡ false → packet_of packet ≡ Ok w → w.content ≡ discovery_request → (discovered b (reply_bytes b w)).answer ≡ Ok place → ReadsAt place (discovered b (reply_bytes b w)).after (reply_to b.contents w)
-  reads-reply w place s t d a =
+  reads_reply : (w : Message) (place : Place) → short b ≡ false → packet_of packet ≡ Ok w → w.content ≡ discovery_request → (discovered b (reply_bytes b w)).answer ≡ Ok place → ReadsAt place (discovered b (reply_bytes b w)).after (reply_to b.contents w)
+  reads_reply w place s t d a =
       let f = fits b packet w sound s t (ap direction_of d) in
       let same = ok_same (Reply (length (reply_bytes b w))) place a in
       record {
         bytes = reply_bytes b w;
-        part = ap (λ x. part_of x b.slab (put_at b.reply 0 (reply_bytes b w))) (sym same) ∙ piece-put b.reply (reply_bytes b w) 0 f.in_reply;
+        part = ap (λ x. part_of x b.slab (put_at b.reply 0 (reply_bytes b w))) (sym same) ∙ piece_put b.reply (reply_bytes b w) 0 f.in_reply;
         few = f.few;
         read = f.back;
       }
 
-  back-carried : (h : Handling) → Handles b sender packet h → (m : Message) (k : ℕ) (place : Place) → packet_of packet ≡ Ok m → Orders m.content → standing b.records sender m.number ≡ Ok (due k) → h.answer ≡ Ok place → ReadsAt place h.after (reply_to b.contents m)
-  back-carried h (stopped reason) m k place p o e a = absurd (no_place reason place a)
-  back-carried h (told w s t d) m k place p o e a = absurd (not_both packet m w p t o d)
-  back-carried h (again w j s t v st) m k place p o e a = absurd (not_due b.records sender m w k j (same_message packet m w p t) e st)
-  back-carried h (done w j s t v st) m k place p o e a =
-      subst (λ x. ReadsAt place (carried b sender w j (reply_bytes b w)).after (reply_to b.contents x)) (same_message packet w m t p) (reads-slab w j place s t v st a)
+  back_carried : (h : Handling) → Handles b sender packet h → (m : Message) (k : ℕ) (place : Place) → packet_of packet ≡ Ok m → Orders m.content → standing b.records sender m.number ≡ Ok (due k) → h.answer ≡ Ok place → ReadsAt place h.after (reply_to b.contents m)
+  back_carried h (stopped reason) m k place p o e a = absurd (no_place reason place a)
+  back_carried h (told w s t d) m k place p o e a = absurd (not_both packet m w p t o d)
+  back_carried h (again w j s t v st) m k place p o e a = absurd (not_due b.records sender m w k j (same_message packet m w p t) e st)
+  back_carried h (done w j s t v st) m k place p o e a =
+      subst (λ x. ReadsAt place (carried b sender w j (reply_bytes b w)).after (reply_to b.contents x)) (same_message packet w m t p) (reads_slab w j place s t v st a)
 
-  back-discovered : (h : Handling) → Handles b sender packet h → (m : Message) (place : Place) → packet_of packet ≡ Ok m → m.content ≡ discovery_request → h.answer ≡ Ok place → ReadsAt place h.after (reply_to b.contents m)
-  back-discovered h (stopped reason) m place p c a = absurd (no_place reason place a)
-  back-discovered h (told w s t d) m place p c a =
-      subst (λ x. ReadsAt place (discovered b (reply_bytes b w)).after (reply_to b.contents x)) (same_message packet w m t p) (reads-reply w place s t d a)
-  back-discovered h (again w j s t v st) m place p c a = absurd (not_both packet w m t p v c)
-  back-discovered h (done w j s t v st) m place p c a = absurd (not_both packet w m t p v c)
+  back_discovered : (h : Handling) → Handles b sender packet h → (m : Message) (place : Place) → packet_of packet ≡ Ok m → m.content ≡ discovery_request → h.answer ≡ Ok place → ReadsAt place h.after (reply_to b.contents m)
+  back_discovered h (stopped reason) m place p c a = absurd (no_place reason place a)
+  back_discovered h (told w s t d) m place p c a =
+      subst (λ x. ReadsAt place (discovered b (reply_bytes b w)).after (reply_to b.contents x)) (same_message packet w m t p) (reads_reply w place s t d a)
+  back_discovered h (again w j s t v st) m place p c a = absurd (not_both packet w m t p v c)
+  back_discovered h (done w j s t v st) m place p c a = absurd (not_both packet w m t p v c)
 
   pub backs : (h : Handling) → Handles b sender packet h → Back b sender packet h
-  backs h w = record { carried = back-carried h w; discovered = back-discovered h w }
+  backs h w = record { carried = back_carried h w; discovered = back_discovered h w }
 
   pub groups : (h : Handling) → Handles b sender packet h → Groups b sender packet h
   groups h (stopped reason) m answer k place bytes p o e a part q = absurd (no_place reason place a)
   groups h (told w s t d) m answer k place bytes p o e a part q = absurd (not_both packet m w p t o d)
   groups h (again w j s t v st) m answer k place bytes p o e a part q = absurd (not_due b.records sender m w k j (same_message packet m w p t) e st)
   groups h (done w j s t v st) m answer k place bytes p o e a part q =
-      let r = reads-slab w j place s t v st a in
+      let r = reads_slab w j place s t v st a in
       let same : bytes ≡ r.bytes = ok_same bytes r.bytes (sym part ∙ r.part) in
       let is : answer ≡ reply_to b.contents w = ok_same answer (reply_to b.contents w) (sym q ∙ ap packet_of same ∙ r.read) in
       subst (λ x. Groupwise b.contents x.content answer.content (left_by b.contents w.content)) (same_message packet w m t p)

@@ -1,7 +1,7 @@
 -- The reply to a request that was read is written, and read back.
---     reply-good    what is to be shown of the reply for it to be written and read back
---     reply-back    it is read back
---     reply-size    and has at most 485 bytes
+--     reply_good    what is to be shown of the reply for it to be written and read back
+--     reply_back    it is read back
+--     reply_size    and has at most 485 bytes
 use Rattle.std.proofs.Common.{◌≡◌, ℕ, ◌≤◌, Bool, true, false, cond, List, [], ◌∷◌, map, length, is_some, Some, None, Ok, Option, sym, refl, ap, ◌∙◌, subst, arith}
 use Rattle.std.specs.List.{AllByRecursion}
 use Rattle.std.proofs.lemmas.List.{length-map}
@@ -10,7 +10,7 @@ use Rattle.packet.specs.Groups.{KeptReadout}
 use Rattle.packet.specs.Messages.{Message, Content, read_request, write_request, discovery_request, read_answer, write_answer, discovery_answer, command_of, count_of, packet_of, Bounded, Kept}
 use Rattle.packet.proofs.Bounds.{bounded, kept, goes}
 use Rattle.writer.specs.Bytes.{bytes_of}
-use Rattle.writer.proofs.Goods.{Good, good, good-back, good-size}
+use Rattle.writer.proofs.Goods.{Good, good, good_back, good_size}
 use Rattle.store.specs.Contents.{Contents, Element, Sound, ValidIn, inside, found, refused}
 use Rattle.mount_box.specs.Carrying.{shown_by, shown, write_codes, replied}
 use Rattle.mount_box.specs.Handling.{reply_to}
@@ -55,17 +55,17 @@ replied_kept c ok (write_answer cs) k = k
 replied_kept c ok (discovery_answer xs) k = k
 
 module _ (c : Contents) (ok : Sound c) (p : List ℕ) (m : Message) (e : packet_of p ≡ Ok m) where
-  reply-bounded : Bounded (reply_to c m)
-  reply-bounded =
+  reply_bounded : Bounded (reply_to c m)
+  reply_bounded =
       let b = bounded p m e in
       let n = replied_count c m.content in
       record { number = b.number; some = omega arith; few = omega arith; both = λ d. n ∙ b.both (sym (replied_command c m.content) ∙ d) }
 
-  pub reply-good : Good (reply_to c m)
-  reply-good = good (reply_to c m) reply-bounded (subst (Goes m.version) (sym (replied_command c m.content)) (goes p m e)) (replied_kept c ok m.content (kept p m e))
+  pub reply_good : Good (reply_to c m)
+  reply_good = good (reply_to c m) reply_bounded (subst (Goes m.version) (sym (replied_command c m.content)) (goes p m e)) (replied_kept c ok m.content (kept p m e))
 
-  pub reply-back : packet_of (bytes_of (reply_to c m)) ≡ Ok (reply_to c m)
-  reply-back = good-back (reply_to c m) reply-good
+  pub reply_back : packet_of (bytes_of (reply_to c m)) ≡ Ok (reply_to c m)
+  reply_back = good_back (reply_to c m) reply_good
 
-  pub reply-size : length (bytes_of (reply_to c m)) ≤ 485
-  reply-size = good-size (reply_to c m) reply-good
+  pub reply_size : length (bytes_of (reply_to c m)) ≤ 485
+  reply_size = good_size (reply_to c m) reply_good

@@ -23,7 +23,7 @@ use Rattle.mount_box.specs.Carrying.{left_by}
 use Rattle.mount_box.specs.Answers.{Received, Answers, Carries, Orders}
 use Rattle.mount_box.specs.Handling.{Box, refused, reply_to, discovered, carried, by_standing, by_content, by_packet, short, handled}
 use Rattle.mount_box.specs.Views.{standing_of, record_of, outcome}
-use Rattle.mount_box.proofs.Replies.{reply-size}
+use Rattle.mount_box.proofs.Replies.{reply_size}
 
 -- where the memory is long enough, the message decides
 pub handled_long : (b : Box) (sender : ℕ) (packet : List ℕ) (m : Message) → short b ≡ false → packet_of packet ≡ Ok m → handled b sender packet ≡ by_content b sender m m.content
@@ -48,7 +48,7 @@ served_size c m n before after ok p o h =
     let d = orders_ask m.content o in
     let a = carries_answers c m (Ok n) before after d h in
     let same : n ≡ length (bytes_of (reply_to c m)) = let t = a.told in cc in
-    let size : length (bytes_of (reply_to c m)) ≤ 485 = reply-size c ok p.0 m p.1 in
+    let size : length (bytes_of (reply_to c m)) ≤ 485 = reply_size c ok p.0 m p.1 in
     omega arith
 
 -- the row that the reply went to, put back
@@ -58,7 +58,7 @@ row_served c m k n slab row ok p o h room a =
     let d = orders_ask m.content o in
     let w = carries_answers c m (Ok n) (take (512 * k + 512 - 512 * k) (drop (512 * k) slab)) row d a in
     let same : n ≡ length (bytes_of (reply_to c m)) = let t = w.told in cc in
-    let size : length (bytes_of (reply_to c m)) ≤ 485 = reply-size c ok p.0 m p.1 in
+    let size : length (bytes_of (reply_to c m)) ≤ 485 = reply_size c ok p.0 m p.1 in
     (same, part_written (512 * k) (512 * k + 512 - 512 * k) slab (bytes_of (reply_to c m)) row (omega arith) (omega arith) w.row)
 
 -- what is due is carried out

@@ -1,6 +1,6 @@
 -- Carrying out one group more.
 --     readings_more            a read
---     codes-more, after_more   a write
+--     codes_more, after_more   a write
 use Rattle.std.proofs.Common.{◌≡◌, ℕ, ◌+◌, ◌<◌, List, [], ◌∷◌, ◌++◌, map, length, take, drop, set, Some, Ok, Err, Result, sym, refl, ap, ◌∙◌, ap₂, append_assoc, arith}
 use Rattle.std.proofs.lemmas.List.{take_more_set, map_push}
 use Rattle.protocol.specs.Words.{code_number}
@@ -42,8 +42,8 @@ readings_more c rs k i r xs ys h e s =
     ∙ ap (λ q. map readout_of (take k rs) ++ q) (ap (λ q. q ∷ map (shown c) ys) (read_shown c i r e) ∙ ap (map (shown c)) (sym s))
 
 module _ (c d : Contents) (w : ℕ × List ℕ) (xs ys : List (ℕ × List ℕ)) (s : xs ≡ w ∷ ys) (a : d ≡ (write_text_of c w.0 w.1).after) where
-  pub codes-more : (rs : List Code) (k : ℕ) (r : Code) → k < length rs → code_number r ≡ (write_text_of c w.0 w.1).code → take (k + 1) (set rs k r) ++ write_codes d ys ≡ take k rs ++ write_codes c xs
-  codes-more rs k r h e =
+  pub codes_more : (rs : List Code) (k : ℕ) (r : Code) → k < length rs → code_number r ≡ (write_text_of c w.0 w.1).code → take (k + 1) (set rs k r) ++ write_codes d ys ≡ take k rs ++ write_codes c xs
+  codes_more rs k r h e =
       ap (λ q. q ++ write_codes d ys) (take_more_set rs k r h)
       ∙ append_assoc (take k rs) (r ∷ []) (write_codes d ys)
       ∙ ap (λ q. take k rs ++ q) (ap₂ (λ q b. q ∷ write_codes b ys) (sym (coded_back r) ∙ ap coded e) a ∙ ap (write_codes c) (sym s))

@@ -17,26 +17,26 @@ pub data Handles (b : Box) (sender : ℕ) (packet : List ℕ) : Handling → Typ
 
 module _ (b : Box) (sender : ℕ) (packet : List ℕ) where
   module _ (m : Message) (s : short b ≡ false) (p : packet_of packet ≡ Ok m) where
-    standing-way : (st : Result Standing Refusal) → standing b.records sender m.number ≡ st → Orders m.content → Handles b sender packet (by_standing b sender m st)
-    standing-way (Err reason) e o = stopped reason
-    standing-way (Ok (repeated k)) e o = again m k s p o e
-    standing-way (Ok (due k)) e o = done m k s p o e
+    standing_way : (st : Result Standing Refusal) → standing b.records sender m.number ≡ st → Orders m.content → Handles b sender packet (by_standing b sender m st)
+    standing_way (Err reason) e o = stopped reason
+    standing_way (Ok (repeated k)) e o = again m k s p o e
+    standing_way (Ok (due k)) e o = done m k s p o e
 
-    content-way : (content : Content) → m.content ≡ content → Handles b sender packet (by_content b sender m content)
-    content-way (read_request is) e = standing-way (standing b.records sender m.number) refl (subst Orders (sym e) tt)
-    content-way (write_request ws) e = standing-way (standing b.records sender m.number) refl (subst Orders (sym e) tt)
-    content-way discovery_request e = told m s p e
-    content-way (read_answer xs) e = stopped Direction
-    content-way (write_answer cs) e = stopped Direction
-    content-way (discovery_answer xs) e = stopped Direction
+    content_way : (content : Content) → m.content ≡ content → Handles b sender packet (by_content b sender m content)
+    content_way (read_request is) e = standing_way (standing b.records sender m.number) refl (subst Orders (sym e) tt)
+    content_way (write_request ws) e = standing_way (standing b.records sender m.number) refl (subst Orders (sym e) tt)
+    content_way discovery_request e = told m s p e
+    content_way (read_answer xs) e = stopped Direction
+    content_way (write_answer cs) e = stopped Direction
+    content_way (discovery_answer xs) e = stopped Direction
 
-  packet-way : (r : Result Message Refusal) → short b ≡ false → packet_of packet ≡ r → Handles b sender packet (by_packet b sender r)
-  packet-way (Err reason) s p = stopped reason
-  packet-way (Ok m) s p = content-way m s p m.content refl
+  packet_way : (r : Result Message Refusal) → short b ≡ false → packet_of packet ≡ r → Handles b sender packet (by_packet b sender r)
+  packet_way (Err reason) s p = stopped reason
+  packet_way (Ok m) s p = content_way m s p m.content refl
 
-  memory-way : (t : Bool) → short b ≡ t → Handles b sender packet (cond t (refused b ShortMemory) (by_packet b sender (packet_of packet)))
-  memory-way true s = stopped ShortMemory
-  memory-way false s = packet-way (packet_of packet) s refl
+  memory_way : (t : Bool) → short b ≡ t → Handles b sender packet (cond t (refused b ShortMemory) (by_packet b sender (packet_of packet)))
+  memory_way true s = stopped ShortMemory
+  memory_way false s = packet_way (packet_of packet) s refl
 
   pub handles : Handles b sender packet (handled b sender packet)
-  handles = memory-way (short b) refl
+  handles = memory_way (short b) refl

@@ -31,16 +31,16 @@ past_first text (suc i) e ne = omega arith
 
 module _ (line text rest : List ℕ) (m n : ℕ) (text-is : text ≡ drop m line) (rest-is : rest ≡ drop n text) (same : words_of (drop m line) ≡ words_of line) where
   -- where no letter follows the spaces, the line is at its end
-  pub at-end : (m < length line → get_or line m 0 ≡ 32 → ⊥) → (0 < length text → (get_or text 0 0 ≡ 32 → ⊥) → 0 < n) → n ≤ length text → length (take n text) ≡ 0 → length text ≡ 0
-  at-end stops some within none =
+  pub at_end : (m < length line → get_or line m 0 ≡ 32 → ⊥) → (0 < length text → (get_or text 0 0 ≡ 32 → ⊥) → 0 < n) → n ≤ length text → length (take n text) ≡ 0 → length text ≡ 0
+  at_end stops some within none =
       let no-letters : n ≡ 0 = sym (length-take-le n text within) ∙ none in
       let l : length text ≡ length line - m = ap length text-is ∙ length-drop m line in
       let z : m + 0 ≡ m = omega arith in
       let here = ap (λ k. get_or line k 0) (sym z) ∙ sym (get_or-drop m line 0 0) ∙ ap (λ xs. get_or xs 0 0) (sym text-is) in
       ⊎_elim (λ h. absurd (omega (arith, some h (λ s. stops (omega arith) (here ∙ s))))) (λ h. omega arith) (cases_lt 0 (length text))
 
-  pub none-there : length text ≡ 0 → words_of line ≡ []
-  none-there e = sym same ∙ ap words_of (sym text-is ∙ nil_from_length text e)
+  pub none_there : length text ≡ 0 → words_of line ≡ []
+  none_there e = sym same ∙ ap words_of (sym text-is ∙ nil_from_length text e)
 
   pub none_left : length text ≡ 0 → words_of rest ≡ []
   none_left e = ap words_of rest-is ∙ at_drop_all words_of text n (omega arith)

@@ -49,9 +49,9 @@ module _ {X : Type 0} (width : ℕ) (group : List (List ℕ) → Result X ℕ) w
       ap (λ r. length (if_group r (ahead width group (suc n) (drop width fs)))) b.is ∙ ap suc (ahead_more n (drop width fs) x b.rest e)
 
   module _ (none : group [] ≡ Err 0) where
-    pub groups-step : (k least most : ℕ) (fs : List (List ℕ)) (x : X) → group fs ≡ Ok x → groups width group k least fs (suc most) ≡ in_front x (groups width group (k + width) (least - 1) (drop width fs) most)
-    groups-step k least most [] x e = let z : ◌≡◌ {A = ℕ} 0 1 = cc in absurd (omega arith)
-    groups-step k least most (f ∷ fs) x e = rw e
+    pub groups_step : (k least most : ℕ) (fs : List (List ℕ)) (x : X) → group fs ≡ Ok x → groups width group k least fs (suc most) ≡ in_front x (groups width group (k + width) (least - 1) (drop width fs) most)
+    groups_step k least most [] x e = let z : ◌≡◌ {A = ℕ} 0 1 = cc in absurd (omega arith)
+    groups_step k least most (f ∷ fs) x e = rw e
 
     further : (n k place : ℕ) → k + width + width * n + place ≡ k + width * suc n + place
     further n k place = let e : width * suc n ≡ width * n + width = mul-suc width n in omega arith
@@ -62,39 +62,39 @@ module _ {X : Type 0} (width : ℕ) (group : List (List ℕ) → Result X ℕ) w
     groups_all (suc n) k least zero fs h e low high = absurd (omega arith)
     groups_all (suc n) k least (suc most) fs h e low high =
         let b = begins n fs h in
-        groups-step k least most fs b.x b.is
+        groups_step k least most fs b.x b.is
         ∙ ap (in_front b.x) (groups_all n (k + width) (least - 1) most (drop width fs) b.rest e (omega arith) (omega arith))
         ∙ ap (λ r. Ok (if_group r (ahead width group n (drop width fs)))) (sym b.is)
 
     -- too few of them
-    pub groups-short : (n k least most : ℕ) (fs : List (List ℕ)) → length (ahead width group n fs) ≡ n → past width n fs ≡ [] → n < least → n ≤ most → groups width group k least fs most ≡ Err (k + width * n)
-    groups-short zero k least most fs h e low high = let z : k + width * 0 ≡ k = omega (arith, mul-zero width) in rw (e, ne_eqb least 0 (λ q. omega arith), z)
-    groups-short (suc n) k least zero fs h e low high = absurd (omega arith)
-    groups-short (suc n) k least (suc most) fs h e low high =
+    pub groups_short : (n k least most : ℕ) (fs : List (List ℕ)) → length (ahead width group n fs) ≡ n → past width n fs ≡ [] → n < least → n ≤ most → groups width group k least fs most ≡ Err (k + width * n)
+    groups_short zero k least most fs h e low high = let z : k + width * 0 ≡ k = omega (arith, mul-zero width) in rw (e, ne_eqb least 0 (λ q. omega arith), z)
+    groups_short (suc n) k least zero fs h e low high = absurd (omega arith)
+    groups_short (suc n) k least (suc most) fs h e low high =
         let b = begins n fs h in
-        groups-step k least most fs b.x b.is
-        ∙ ap (in_front b.x) (groups-short n (k + width) (least - 1) most (drop width fs) b.rest e (omega arith) (omega arith))
+        groups_step k least most fs b.x b.is
+        ∙ ap (in_front b.x) (groups_short n (k + width) (least - 1) most (drop width fs) b.rest e (omega arith) (omega arith))
         ∙ ap Err (omega (arith, further n k 0))
 
     -- one too many
-    pub groups-over : (n k least : ℕ) (fs : List (List ℕ)) → length (ahead width group n fs) ≡ n → 0 < length (past width n fs) → groups width group k least fs n ≡ Err (k + width * n)
-    groups-over zero k least [] h some = absurd (omega arith)
-    groups-over zero k least (f ∷ fs) h some = ap Err (omega (arith, mul-zero width))
-    groups-over (suc n) k least fs h some =
+    pub groups_over : (n k least : ℕ) (fs : List (List ℕ)) → length (ahead width group n fs) ≡ n → 0 < length (past width n fs) → groups width group k least fs n ≡ Err (k + width * n)
+    groups_over zero k least [] h some = absurd (omega arith)
+    groups_over zero k least (f ∷ fs) h some = ap Err (omega (arith, mul-zero width))
+    groups_over (suc n) k least fs h some =
         let b = begins n fs h in
-        groups-step k least n fs b.x b.is
-        ∙ ap (in_front b.x) (groups-over n (k + width) (least - 1) (drop width fs) b.rest some)
+        groups_step k least n fs b.x b.is
+        ∙ ap (in_front b.x) (groups_over n (k + width) (least - 1) (drop width fs) b.rest some)
         ∙ ap Err (omega (arith, further n k 0))
 
     -- one that is none
-    pub groups-broken : (n k least most : ℕ) (fs : List (List ℕ)) (place : ℕ) → length (ahead width group n fs) ≡ n → 0 < length (past width n fs) → n < most → Err place ≡ group (past width n fs) → groups width group k least fs most ≡ Err (k + width * n + place)
-    groups-broken n k least zero fs place h some room e = absurd (omega arith)
-    groups-broken zero k least (suc most) [] place h some room e = absurd (omega arith)
-    groups-broken zero k least (suc most) (f ∷ fs) place h some room e = rw (← e) (ap Err (omega (arith, mul-zero width)))
-    groups-broken (suc n) k least (suc most) fs place h some room e =
+    pub groups_broken : (n k least most : ℕ) (fs : List (List ℕ)) (place : ℕ) → length (ahead width group n fs) ≡ n → 0 < length (past width n fs) → n < most → Err place ≡ group (past width n fs) → groups width group k least fs most ≡ Err (k + width * n + place)
+    groups_broken n k least zero fs place h some room e = absurd (omega arith)
+    groups_broken zero k least (suc most) [] place h some room e = absurd (omega arith)
+    groups_broken zero k least (suc most) (f ∷ fs) place h some room e = rw (← e) (ap Err (omega (arith, mul-zero width)))
+    groups_broken (suc n) k least (suc most) fs place h some room e =
         let b = begins n fs h in
-        groups-step k least most fs b.x b.is
-        ∙ ap (in_front b.x) (groups-broken n (k + width) (least - 1) most (drop width fs) place b.rest some (omega arith) e)
+        groups_step k least most fs b.x b.is
+        ∙ ap (in_front b.x) (groups_broken n (k + width) (least - 1) most (drop width fs) place b.rest some (omega arith) e)
         ∙ ap Err (further n k place)
 
 -- n groups of `all` are read, and `rest` is what is left
@@ -110,23 +110,23 @@ empty fs [] e t = refl
 empty fs (g ∷ gs) e t = absurd (true≢false (t ∙ ap (λ l. eqb (length l) 0) e ∙ ne_eqb (length (g ∷ gs)) 0 (λ z. omega arith)))
 
 module _ {X : Type 0} (width : ℕ) (group : List (List ℕ) → Result X ℕ) (n : ℕ) (all rest : List (List ℕ)) (p : Passed width group n all rest) where
-  pub passed-more : (x : X) (behind : List (List ℕ)) → Ok x ≡ group rest → behind ≡ drop width rest → Passed width group (n + 1) all behind
-  passed-more x behind e d =
+  pub passed_more : (x : X) (behind : List (List ℕ)) → Ok x ≡ group rest → behind ≡ drop width rest → Passed width group (n + 1) all behind
+  passed_more x behind e d =
       let k : n + 1 ≡ suc n = add-one n in
       rw k (d ∙ ap (drop width) p.0 ∙ sym (past_more width n all), ahead_more width group n all x p.1 (e ∙ ap group p.0))
 
   module _ (none : group [] ≡ Err 0) where
     pub passed_over : (k least : ℕ) → false ≡ eqb (length rest) 0 → Err (k + width * n) ≡ groups width group k least all n
-    passed_over k least t = sym (groups-over width group none n k least all p.1 (nonempty rest (past width n all) p.0 t))
+    passed_over k least t = sym (groups_over width group none n k least all p.1 (nonempty rest (past width n all) p.0 t))
 
-    pub passed-broken : (k least most place : ℕ) → false ≡ eqb (length rest) 0 → n < most → Err place ≡ group rest → Err (k + width * n + place) ≡ groups width group k least all most
-    passed-broken k least most place t room e = sym (groups-broken width group none n k least most all place p.1 (nonempty rest (past width n all) p.0 t) room (e ∙ ap group p.0))
+    pub passed_broken : (k least most place : ℕ) → false ≡ eqb (length rest) 0 → n < most → Err place ≡ group rest → Err (k + width * n + place) ≡ groups width group k least all most
+    passed_broken k least most place t room e = sym (groups_broken width group none n k least most all place p.1 (nonempty rest (past width n all) p.0 t) room (e ∙ ap group p.0))
 
-    pub passed-all : (k least most : ℕ) → true ≡ eqb (length rest) 0 → least ≤ n → n ≤ most → Ok (ahead width group n all) ≡ groups width group k least all most
-    passed-all k least most t low high = sym (groups_all width group none n k least most all p.1 (empty rest (past width n all) p.0 t) low high)
+    pub passed_all : (k least most : ℕ) → true ≡ eqb (length rest) 0 → least ≤ n → n ≤ most → Ok (ahead width group n all) ≡ groups width group k least all most
+    passed_all k least most t low high = sym (groups_all width group none n k least most all p.1 (empty rest (past width n all) p.0 t) low high)
 
-    pub passed-short : (k least most : ℕ) → true ≡ eqb (length rest) 0 → n < least → n ≤ most → Err (k + width * n) ≡ groups width group k least all most
-    passed-short k least most t low high = sym (groups-short width group none n k least most all p.1 (empty rest (past width n all) p.0 t) low high)
+    pub passed_short : (k least most : ℕ) → true ≡ eqb (length rest) 0 → n < least → n ≤ most → Err (k + width * n) ≡ groups width group k least all most
+    passed_short k least most t low high = sym (groups_short width group none n k least most all p.1 (empty rest (past width n all) p.0 t) low high)
 
 -- some group is read where there is a field
 pub passed_some : {X : Type 0} (width : ℕ) (group : List (List ℕ) → Result X ℕ) (n : ℕ) (all rest : List (List ℕ)) → Passed width group n all rest → true ≡ eqb (length rest) 0 → 0 < length all → 1 ≤ n

@@ -84,24 +84,24 @@ ruled_numeral top field n e = let p = then_some field (numeral top) n e in (spel
 
 module _ {X : Type 0} (width : ℕ) (group : List (List ℕ) → Result X ℕ) where
   -- how many groups are read
-  few-step : (k least most : ℕ) (r : Result X ℕ) (s : Result (List X) ℕ) (xs : List X) → ((ys : List X) → s ≡ Ok ys → (least - 1 ≤ length ys) × (length ys ≤ most)) → or_within k r (λ x. in_front x s) ≡ Ok xs → (least ≤ length xs) × (length xs ≤ suc most)
-  few-step k least most (Err place) s xs h e = let z : ◌≡◌ {A = ℕ} 0 1 = cc in absurd (omega arith)
-  few-step k least most (Ok x) (Err field) xs h e = let z : ◌≡◌ {A = ℕ} 0 1 = cc in absurd (omega arith)
-  few-step k least most (Ok x) (Ok ys) xs h e =
+  few_step : (k least most : ℕ) (r : Result X ℕ) (s : Result (List X) ℕ) (xs : List X) → ((ys : List X) → s ≡ Ok ys → (least - 1 ≤ length ys) × (length ys ≤ most)) → or_within k r (λ x. in_front x s) ≡ Ok xs → (least ≤ length xs) × (length xs ≤ suc most)
+  few_step k least most (Err place) s xs h e = let z : ◌≡◌ {A = ℕ} 0 1 = cc in absurd (omega arith)
+  few_step k least most (Ok x) (Err field) xs h e = let z : ◌≡◌ {A = ℕ} 0 1 = cc in absurd (omega arith)
+  few_step k least most (Ok x) (Ok ys) xs h e =
       let p = h ys refl in
       let l : length (x ∷ ys) ≡ length xs = ap length (ok_same (x ∷ ys) xs e) in
       (omega (arith, p.0), omega (arith, p.1))
 
-  pub groups-few : (k least : ℕ) (fs : List (List ℕ)) (most : ℕ) (xs : List X) → groups width group k least fs most ≡ Ok xs → (least ≤ length xs) × (length xs ≤ most)
-  groups-few k least [] most xs e =
+  pub groups_few : (k least : ℕ) (fs : List (List ℕ)) (most : ℕ) (xs : List X) → groups width group k least fs most ≡ Ok xs → (least ≤ length xs) × (length xs ≤ most)
+  groups_few k least [] most xs e =
       let p = passed_on (eqb least 0) (Ok []) k xs e in
       let z : least ≡ 0 = eqb-true least 0 p.0 in
       let l : 0 ≡ length xs = ap length (ok_same [] xs p.1) in
       (omega arith, omega arith)
-  groups-few k least (f ∷ fs) zero xs e = let z : ◌≡◌ {A = ℕ} 0 1 = cc in absurd (omega arith)
-  groups-few k least (f ∷ fs) (suc most) xs e =
-      few-step k least most (group (f ∷ fs)) (groups width group (k + width) (least - 1) (drop width (f ∷ fs)) most) xs
-      (λ ys h. groups-few (k + width) (least - 1) (drop width (f ∷ fs)) most ys h) e
+  groups_few k least (f ∷ fs) zero xs e = let z : ◌≡◌ {A = ℕ} 0 1 = cc in absurd (omega arith)
+  groups_few k least (f ∷ fs) (suc most) xs e =
+      few_step k least most (group (f ∷ fs)) (groups width group (k + width) (least - 1) (drop width (f ∷ fs)) most) xs
+      (λ ys h. groups_few (k + width) (least - 1) (drop width (f ∷ fs)) most ys h) e
 
   -- each of them is read from fields that are the packet's
   module _ (P : X → Type 0) (one : (fs : List (List ℕ)) (x : X) → AllByRecursion Piece fs → group fs ≡ Ok x → P x) where
@@ -110,14 +110,14 @@ module _ {X : Type 0} (width : ℕ) (group : List (List ℕ) → Result X ℕ) w
     each_step k fs (Ok x) (Err field) xs g a h e = let z : ◌≡◌ {A = ℕ} 0 1 = cc in absurd (omega arith)
     each_step k fs (Ok x) (Ok ys) xs g a h e = subst (AllByRecursion P) (ok_same (x ∷ ys) xs e) (one fs x a g, h ys refl)
 
-    pub groups-each : (k least : ℕ) (fs : List (List ℕ)) (most : ℕ) (xs : List X) → AllByRecursion Piece fs → groups width group k least fs most ≡ Ok xs → AllByRecursion P xs
-    groups-each k least [] most xs a e =
+    pub groups_each : (k least : ℕ) (fs : List (List ℕ)) (most : ℕ) (xs : List X) → AllByRecursion Piece fs → groups width group k least fs most ≡ Ok xs → AllByRecursion P xs
+    groups_each k least [] most xs a e =
         let p = passed_on (eqb least 0) (Ok []) k xs e in
         subst (AllByRecursion P) (ok_same [] xs p.1) tt
-    groups-each k least (f ∷ fs) zero xs a e = let z : ◌≡◌ {A = ℕ} 0 1 = cc in absurd (omega arith)
-    groups-each k least (f ∷ fs) (suc most) xs a e =
+    groups_each k least (f ∷ fs) zero xs a e = let z : ◌≡◌ {A = ℕ} 0 1 = cc in absurd (omega arith)
+    groups_each k least (f ∷ fs) (suc most) xs a e =
         each_step k (f ∷ fs) (group (f ∷ fs)) (groups width group (k + width) (least - 1) (drop width (f ∷ fs)) most) xs refl a
-        (λ ys h. groups-each (k + width) (least - 1) (drop width (f ∷ fs)) most ys (All-drop Piece width (f ∷ fs) a) h) e
+        (λ ys h. groups_each (k + width) (least - 1) (drop width (f ∷ fs)) most ys (All-drop Piece width (f ∷ fs) a) h) e
 
 first_all : {X : Type 0} (P : X → Type 0) (xs : List X) (x : X) → AllByRecursion P xs → first xs ≡ Some x → P x
 first_all P [] x a e = let z : ◌≡◌ {A = ℕ} 0 1 = cc in absurd (omega arith)
@@ -195,30 +195,30 @@ not_discovery l e = absurd (omega (arith, ap command_number e))
 payload : (direction : Direction) (command : Command) (fs : List (List ℕ)) (content : Content) → AllByRecursion Piece fs → content_by direction command fs ≡ Ok content → Payload command content
 payload Request Read fs content a e =
     let p = made_ok read_request (groups 1 index_group 4 1 fs 10) content e in
-    let n = groups-few 1 index_group 4 1 fs 10 p.0 p.1.0 in
-    let k = groups-each 1 index_group (λ i. i < 65536) (λ gs i _ g. index_kept gs i g) 4 1 fs 10 p.0 a p.1.0 in
+    let n = groups_few 1 index_group 4 1 fs 10 p.0 p.1.0 in
+    let k = groups_each 1 index_group (λ i. i < 65536) (λ gs i _ g. index_kept gs i g) 4 1 fs 10 p.0 a p.1.0 in
     subst (Payload Read) p.1.1 (record { about = refl; some = n.0; few = n.1; both = not_discovery (omega arith); kept = k })
 payload Request Write fs content a e =
     let p = made_ok write_request (groups 2 write_group 4 1 fs 10) content e in
-    let n = groups-few 2 write_group 4 1 fs 10 p.0 p.1.0 in
-    let k = groups-each 2 write_group KeptWrite write_kept 4 1 fs 10 p.0 a p.1.0 in
+    let n = groups_few 2 write_group 4 1 fs 10 p.0 p.1.0 in
+    let k = groups_each 2 write_group KeptWrite write_kept 4 1 fs 10 p.0 a p.1.0 in
     subst (Payload Write) p.1.1 (record { about = refl; some = n.0; few = n.1; both = not_discovery (omega arith); kept = k })
 payload Request Discovery fs content a e =
     let p = made_ok (λ _. discovery_request) (discovery_of fs) content e in
     subst (Payload Discovery) p.1.1 (record { about = refl; some = omega arith; few = omega arith; both = λ _. refl; kept = tt })
 payload Answer Read fs content a e =
     let p = made_ok read_answer (groups 3 reading_group 4 1 fs 10) content e in
-    let n = groups-few 3 reading_group 4 1 fs 10 p.0 p.1.0 in
-    let k = groups-each 3 reading_group KeptReadout (λ gs x _ g. reading_kept gs x g) 4 1 fs 10 p.0 a p.1.0 in
+    let n = groups_few 3 reading_group 4 1 fs 10 p.0 p.1.0 in
+    let k = groups_each 3 reading_group KeptReadout (λ gs x _ g. reading_kept gs x g) 4 1 fs 10 p.0 a p.1.0 in
     subst (Payload Read) p.1.1 (record { about = refl; some = n.0; few = n.1; both = not_discovery (omega arith); kept = k })
 payload Answer Write fs content a e =
     let p = made_ok write_answer (groups 1 code_group 4 1 fs 10) content e in
-    let n = groups-few 1 code_group 4 1 fs 10 p.0 p.1.0 in
+    let n = groups_few 1 code_group 4 1 fs 10 p.0 p.1.0 in
     subst (Payload Write) p.1.1 (record { about = refl; some = n.0; few = n.1; both = not_discovery (omega arith); kept = tt })
 payload Answer Discovery fs content a e =
     let p = made_ok discovery_answer (groups 3 reading_group 4 2 fs 2) content e in
-    let n = groups-few 3 reading_group 4 2 fs 2 p.0 p.1.0 in
-    let k = groups-each 3 reading_group KeptReadout (λ gs x _ g. reading_kept gs x g) 4 2 fs 2 p.0 a p.1.0 in
+    let n = groups_few 3 reading_group 4 2 fs 2 p.0 p.1.0 in
+    let k = groups_each 3 reading_group KeptReadout (λ gs x _ g. reading_kept gs x g) 4 2 fs 2 p.0 a p.1.0 in
     subst (Payload Discovery) p.1.1 (record { about = refl; some = omega (arith, n.0); few = omega (arith, n.1); both = λ _. omega (arith, n.0, n.1); kept = k })
 
 -- the command 3 is the word 3
@@ -272,44 +272,44 @@ pub record Parts (m : Message) : Type 0 where
 pub parts : (bytes : List ℕ) (m : Message) → packet_of bytes ≡ Ok m → Parts m
 parts bytes m e = framed_parts (fields_of bytes) refl e
   where
-    with-content : (fs : List (List ℕ)) (head : Head) → AllByRecursion Piece fs → head_of fs ≡ Ok head → (r : Result Content ℕ) → content_by head.direction head.command (drop 4 fs) ≡ r → message_by head r ≡ Ok m → Parts m
-    with-content fs head a h (Err field) c e = let z : ◌≡◌ {A = ℕ} 0 1 = cc in absurd (omega arith)
-    with-content fs head a h (Ok content) c e =
+    with_content : (fs : List (List ℕ)) (head : Head) → AllByRecursion Piece fs → head_of fs ≡ Ok head → (r : Result Content ℕ) → content_by head.direction head.command (drop 4 fs) ≡ r → message_by head r ≡ Ok m → Parts m
+    with_content fs head a h (Err field) c e = let z : ◌≡◌ {A = ℕ} 0 1 = cc in absurd (omega arith)
+    with_content fs head a h (Ok content) c e =
         let s = ok_same (record { version = head.version; number = head.number; content = content }) m e in
         let t = ap (λ x. x.content) s in
         record { fields = fs; head = head; pieces = a; head_is = h; content_is = c ∙ ap Ok t; message_is = sym s ∙ ap (λ x. record { version = head.version; number = head.number; content = x }) t }
 
-    with-head : (fs : List (List ℕ)) → AllByRecursion Piece fs → (r : Result Head Refusal) → head_of fs ≡ r → after_head (drop 4 fs) r ≡ Ok m → Parts m
-    with-head fs a (Err refusal) h e = let z : ◌≡◌ {A = ℕ} 0 1 = cc in absurd (omega arith)
-    with-head fs a (Ok head) h e = with-content fs head a h (content_by head.direction head.command (drop 4 fs)) refl e
+    with_head : (fs : List (List ℕ)) → AllByRecursion Piece fs → (r : Result Head Refusal) → head_of fs ≡ r → after_head (drop 4 fs) r ≡ Ok m → Parts m
+    with_head fs a (Err refusal) h e = let z : ◌≡◌ {A = ℕ} 0 1 = cc in absurd (omega arith)
+    with_head fs a (Ok head) h e = with_content fs head a h (content_by head.direction head.command (drop 4 fs)) refl e
 
     framed_parts : (r : Result (List (List ℕ)) Refusal) → fields_of bytes ≡ r → after_frame r ≡ Ok m → Parts m
     framed_parts (Err refusal) f e = let z : ◌≡◌ {A = ℕ} 0 1 = cc in absurd (omega arith)
-    framed_parts (Ok fs) f e = with-head fs (frame_pieces bytes fs f) (head_of fs) refl e
+    framed_parts (Ok fs) f e = with_head fs (frame_pieces bytes fs f) (head_of fs) refl e
 
 module _ (bytes : List ℕ) (m : Message) (e : packet_of bytes ≡ Ok m) where
-  whole-payload : Payload (parts bytes m e).head.command m.content
-  whole-payload =
+  whole_payload : Payload (parts bytes m e).head.command m.content
+  whole_payload =
       let p = parts bytes m e in
       payload p.head.direction p.head.command (drop 4 p.fields) m.content (All-drop Piece 4 p.fields p.pieces) p.content_is
 
   pub bounded : Bounded m
   bounded =
       let p = parts bytes m e in
-      let c = whole-payload in
+      let c = whole_payload in
       let n = (headed p.fields p.head p.head_is).number in
       let s : m.number ≡ p.head.number = ap (λ x. x.number) p.message_is in
       record { number = omega arith; some = c.some; few = c.few; both = c.both }
 
   pub kept : Kept m.content
-  kept = whole-payload.kept
+  kept = whole_payload.kept
 
   pub goes : Goes m.version (command_of m.content)
   goes =
       let p = parts bytes m e in
       let h = headed p.fields p.head p.head_is in
       let v : p.head.version ≡ m.version = sym (ap (λ x. x.version) p.message_is) in
-      let c : p.head.command ≡ command_of m.content = sym whole-payload.about in
+      let c : p.head.command ≡ command_of m.content = sym whole_payload.about in
       subst (λ x. Goes x (command_of m.content)) v (subst (Goes p.head.version) c h.goes)
 
 -- the same of what reading gives

@@ -31,8 +31,8 @@ parts_cut bs i h clear comma =
 
 pub parts_some : (bs : List ℕ) → 0 < length (parts bs)
 parts_some [] = omega arith
-parts_some (b ∷ bs) = cond_both (eqb b 44) _ _ (λ ps. 0 < length ps) (λ _. omega arith) (λ _. onto-some b (parts bs))
+parts_some (b ∷ bs) = cond_both (eqb b 44) _ _ (λ ps. 0 < length ps) (λ _. omega arith) (λ _. onto_some b (parts bs))
   where
-    onto-some : (b : ℕ) (ps : List (List ℕ)) → 0 < length (onto b ps)
-    onto-some b [] = omega arith
-    onto-some b (p ∷ ps) = omega arith
+    onto_some : (b : ℕ) (ps : List (List ℕ)) → 0 < length (onto b ps)
+    onto_some b [] = omega arith
+    onto_some b (p ∷ ps) = omega arith

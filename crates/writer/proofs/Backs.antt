@@ -26,7 +26,7 @@ use Rattle.packet.specs.Heads.{head_of, version_beside, Goes}
 use Rattle.packet.specs.Rules.{or_fault}
 use Rattle.packet.specs.Groups.{index_group, write_group, code_group, reading_group, Readout, found, lacking, in_front, groups, KeptReadout}
 use Rattle.packet.specs.declared.head.Head.{Head}
-use Rattle.packet.proofs.Ahead.{groups-step}
+use Rattle.packet.proofs.Ahead.{groups_step}
 use Rattle.writer.specs.Bytes.{head_fields, index_fields, write_fields, code_fields, readout_fields}
 
 -- a group's fields read as the group, and as no more than it
@@ -38,7 +38,7 @@ pub groups_back : {X : Type 0} (width : ℕ) (group : List (List ℕ) → Result
 groups_back width group f none k least most [] h low high = rw (eq-eqb least 0 (omega arith))
 groups_back width group f none k least zero (x ∷ xs) h low high = absurd (omega arith)
 groups_back width group f none k least (suc most) (x ∷ xs) h low high =
-    groups-step width group none k least most (f x ++ flat_map f xs) x (h.0.is (flat_map f xs))
+    groups_step width group none k least most (f x ++ flat_map f xs) x (h.0.is (flat_map f xs))
     ∙ ap (λ fs. in_front x (groups width group (k + width) (least - 1) fs most)) (h.0.over (flat_map f xs))
     ∙ ap (in_front x) (groups_back width group f none (k + width) (least - 1) most xs h.1 (omega arith) (omega arith))
 

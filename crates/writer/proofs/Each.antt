@@ -8,8 +8,8 @@ module _ {X : Type 0} (p : X → Bool) (f : List X → Bool) (none : f [] ≡ tr
   each_step : (x : X) → i < length xs → x ≡ get_or xs i x → f xs ≡ (p x && f (drop (i + 1) xs))
   each_step x h e = sym inv ∙ at_drop_more f xs i x h ∙ ap (λ y. f (y ∷ drop (i + 1) xs)) (sym e) ∙ more x (drop (i + 1) xs)
 
-  pub each-stops : (x : X) → i < length xs → x ≡ get_or xs i x → p x ≡ false → false ≡ f xs
-  each-stops x h e t = sym (each_step x h e ∙ ap (λ b. b && f (drop (i + 1) xs)) t)
+  pub each_stops : (x : X) → i < length xs → x ≡ get_or xs i x → p x ≡ false → false ≡ f xs
+  each_stops x h e t = sym (each_step x h e ∙ ap (λ b. b && f (drop (i + 1) xs)) t)
 
   pub each_more : (x : X) → i < length xs → x ≡ get_or xs i x → p x ≡ true → f (drop (i + 1) xs) ≡ f xs
   each_more x h e t = sym (each_step x h e ∙ ap (λ b. b && f (drop (i + 1) xs)) t)

@@ -1,7 +1,7 @@
 -- Messages that can be written and are read back.
 --     Good m        what is to be shown of a message
---     good-back     it is read back
---     good-size     and has at most 485 bytes
+--     good_back     it is read back
+--     good_size     and has at most 485 bytes
 --     good          a message is good if its groups keep their rules
 use Rattle.std.proofs.Common.{◌≡◌, ℕ, ◌*◌, ◌<◌, ◌≤◌, Bool, true, List, [], ◌∷◌, ◌++◌, length, take, drop, pos, is_some, Some, None, Ok, Err, codes, decimal, Option, Result, sym, refl, ap, ◌∙◌, append_assoc, arith, length-append, rules}
 use Rattle.std.specs.List.{flat_map, AllByRecursion}
@@ -108,23 +108,23 @@ bytes_parts m =
     ∙ ap (λ l. 123 ∷ l) (append_assoc (parted hf) (payload_bytes m) (125 ∷ [])))
 
 module _ (m : Message) (g : Good m) where
-  parted-size : length (parted (message_fields m)) ≤ 483
-  parted-size =
+  parted_size : length (parted (message_fields m)) ≤ 483
+  parted_size =
       let hf = head_fields m.version (direction_of m.content) m.number (command_of m.content) in
       let e = ap length (parted_append (version_word m.version) (drop 1 hf) (content_fields m.content)) in
       omega (arith, e, length-append (parted hf) (payload_bytes m), g.small, head_size m.version (direction_of m.content) m.number (command_of m.content) g.number)
 
-  pub good-size : length (bytes_of m) ≤ 485
-  good-size = omega (arith, parted-size, length-append (parted (message_fields m)) (125 ∷ []))
+  pub good_size : length (bytes_of m) ≤ 485
+  good_size = omega (arith, parted_size, length-append (parted (message_fields m)) (125 ∷ []))
 
-  all-clean : AllByRecursion Clean (message_fields m)
-  all-clean = All-append Clean (head_fields m.version (direction_of m.content) m.number (command_of m.content)) (content_fields m.content) (head_clean m.version (direction_of m.content) m.number (command_of m.content) g.number) g.clean
+  all_clean : AllByRecursion Clean (message_fields m)
+  all_clean = All-append Clean (head_fields m.version (direction_of m.content) m.number (command_of m.content)) (content_fields m.content) (head_clean m.version (direction_of m.content) m.number (command_of m.content) g.number) g.clean
 
-  pub good-back : packet_of (bytes_of m) ≡ Ok m
-  good-back =
+  pub good_back : packet_of (bytes_of m) ≡ Ok m
+  good_back =
       let fs = message_fields m in
-      let body = fields_body (parted fs) (omega (arith, parted-size)) (plain_parted fs all-clean) (text_parted fs all-clean) in
-      let same = fields_parted (version_word m.version) (drop 1 fs) all-clean in
+      let body = fields_body (parted fs) (omega (arith, parted_size)) (plain_parted fs all_clean) (text_parted fs all_clean) in
+      let same = fields_parted (version_word m.version) (drop 1 fs) all_clean in
       let head = head_back m.version (direction_of m.content) m.number (command_of m.content) (content_fields m.content) g.number g.goes in
       ap after_frame (body ∙ ap Ok same)
       ∙ ap (after_head (content_fields m.content)) head
@@ -137,17 +137,17 @@ pub record Fine {X : Type 0} (width : ℕ) (group : List (List ℕ) → Result X
   pub small : length (flat_map colon (f x)) ≤ 47
 
 module _ {X : Type 0} (width : ℕ) (group : List (List ℕ) → Result X ℕ) (f : X → List (List ℕ)) where
-  pub fine-clean : (xs : List X) → AllByRecursion (Fine width group f) xs → AllByRecursion Clean (flat_map f xs)
-  fine-clean [] h = tt
-  fine-clean (x ∷ xs) h = All-append Clean (f x) (flat_map f xs) h.0.clean (fine-clean xs h.1)
+  pub fine_clean : (xs : List X) → AllByRecursion (Fine width group f) xs → AllByRecursion Clean (flat_map f xs)
+  fine_clean [] h = tt
+  fine_clean (x ∷ xs) h = All-append Clean (f x) (flat_map f xs) h.0.clean (fine_clean xs h.1)
 
-  pub fine-reads : (xs : List X) → AllByRecursion (Fine width group f) xs → AllByRecursion (Reads width group f) xs
-  fine-reads [] h = tt
-  fine-reads (x ∷ xs) h = (h.0.reads, fine-reads xs h.1)
+  pub fine_reads : (xs : List X) → AllByRecursion (Fine width group f) xs → AllByRecursion (Reads width group f) xs
+  fine_reads [] h = tt
+  fine_reads (x ∷ xs) h = (h.0.reads, fine_reads xs h.1)
 
-  pub fine-small : (xs : List X) → AllByRecursion (Fine width group f) xs → length (flat_map colon (flat_map f xs)) ≤ 47 * length xs
-  fine-small [] h = omega arith
-  fine-small (x ∷ xs) h = omega (arith, ap length (joined_append colon (f x) (flat_map f xs)), length-append (flat_map colon (f x)) (flat_map colon (flat_map f xs)), h.0.small, fine-small xs h.1)
+  pub fine_small : (xs : List X) → AllByRecursion (Fine width group f) xs → length (flat_map colon (flat_map f xs)) ≤ 47 * length xs
+  fine_small [] h = omega arith
+  fine_small (x ∷ xs) h = omega (arith, ap length (joined_append colon (f x) (flat_map f xs)), length-append (flat_map colon (f x)) (flat_map colon (flat_map f xs)), h.0.small, fine_small xs h.1)
 
 fine_index : (i : ℕ) → i < 65536 → Fine 1 index_group index_fields i
 fine_index i h = record { clean = (clean_decimal i h, tt); reads = reads_index i h; small = omega (arith, five i h, length-append (decimal i) []) }
@@ -231,25 +231,25 @@ record Payload (content : Content) : Type 0 where
 -- groups that are fine, and few
 module _ {X : Type 0} (width : ℕ) (group : List (List ℕ) → Result X ℕ) (f : X → List (List ℕ)) (none : group [] ≡ Err 0) (xs : List X) (fine : AllByRecursion (Fine width group f) xs) where
   fine_back : (least most : ℕ) → least ≤ length xs → length xs ≤ most → groups width group 4 least (flat_map f xs) most ≡ Ok xs
-  fine_back least most low high = groups_back width group f none 4 least most xs (fine-reads width group f xs fine) low high
+  fine_back least most low high = groups_back width group f none 4 least most xs (fine_reads width group f xs fine) low high
 
-  fine-few : length xs ≤ 10 → length (flat_map colon (flat_map f xs)) ≤ 470
-  fine-few high = omega (arith, fine-small width group f xs fine)
+  fine_few : length xs ≤ 10 → length (flat_map colon (flat_map f xs)) ≤ 470
+  fine_few high = omega (arith, fine_small width group f xs fine)
 
 payload : (content : Content) → 1 ≤ count_of content → count_of content ≤ 10 → (command_of content ≡ Discovery → count_of content ≡ 2) → Kept content → Payload content
 payload (read_request is) low high both k =
     let fine = All-weaker (λ i. i < 65536) (Fine 1 index_group index_fields) fine_index is k in
     record {
-      clean = fine-clean 1 index_group index_fields is fine;
+      clean = fine_clean 1 index_group index_fields is fine;
       reads = ap (with_ok read_request) (fine_back 1 index_group index_fields refl is fine 1 10 low high);
-      small = fine-few 1 index_group index_fields refl is fine high;
+      small = fine_few 1 index_group index_fields refl is fine high;
     }
 payload (write_request ws) low high both k =
     let fine = All-weaker KeptWrite (Fine 2 write_group write_fields) fine_write ws k in
     record {
-      clean = fine-clean 2 write_group write_fields ws fine;
+      clean = fine_clean 2 write_group write_fields ws fine;
       reads = ap (with_ok write_request) (fine_back 2 write_group write_fields refl ws fine 1 10 low high);
-      small = fine-few 2 write_group write_fields refl ws fine high;
+      small = fine_few 2 write_group write_fields refl ws fine high;
     }
 payload discovery_request low high both k =
     record {
@@ -260,23 +260,23 @@ payload discovery_request low high both k =
 payload (read_answer xs) low high both k =
     let fine = All-weaker KeptReadout (Fine 3 reading_group readout_fields) fine_readout xs k in
     record {
-      clean = fine-clean 3 reading_group readout_fields xs fine;
+      clean = fine_clean 3 reading_group readout_fields xs fine;
       reads = ap (with_ok read_answer) (fine_back 3 reading_group readout_fields refl xs fine 1 10 low high);
-      small = fine-few 3 reading_group readout_fields refl xs fine high;
+      small = fine_few 3 reading_group readout_fields refl xs fine high;
     }
 payload (write_answer cs) low high both k =
     let fine = all_of (Fine 1 code_group code_fields) fine_code cs in
     record {
-      clean = fine-clean 1 code_group code_fields cs fine;
+      clean = fine_clean 1 code_group code_fields cs fine;
       reads = ap (with_ok write_answer) (fine_back 1 code_group code_fields refl cs fine 1 10 low high);
-      small = fine-few 1 code_group code_fields refl cs fine high;
+      small = fine_few 1 code_group code_fields refl cs fine high;
     }
 payload (discovery_answer xs) low high both k =
     let fine = All-weaker KeptReadout (Fine 3 reading_group readout_fields) fine_readout xs k in
     record {
-      clean = fine-clean 3 reading_group readout_fields xs fine;
+      clean = fine_clean 3 reading_group readout_fields xs fine;
       reads = ap (with_ok discovery_answer) (fine_back 3 reading_group readout_fields refl xs fine 2 2 (omega (arith, both refl)) (omega (arith, both refl)));
-      small = fine-few 3 reading_group readout_fields refl xs fine high;
+      small = fine_few 3 reading_group readout_fields refl xs fine high;
     }
 
 pub good : (m : Message) → Bounded m → Goes m.version (command_of m.content) → Kept m.content → Good m
@@ -293,13 +293,13 @@ pub record Ended (allowed : Bool) (m : Message) (before after : List ℕ) (end :
 
 pub ended : {r₁ r₂ after : List ℕ} {i j end : ℕ} (allowed : Bool) (m : Message) (row : List ℕ) → Good m → 512 ≤ length row → true ≡ allowed → Puts row 0 (head_bytes m) r₁ i → Puts r₁ i (payload_bytes m) r₂ j → Puts r₂ j (125 ∷ []) after end → Ended allowed m row after end
 ended {after = after} {end = end} allowed m row g room t p q r =
-    let size = good-size m g in
+    let size = good_size m g in
     let all = puts_as _ _ (bytes_parts m) (puts_two (head_bytes m) (payload_bytes m ++ (125 ∷ [])) p (puts_two (payload_bytes m) (125 ∷ []) q r)) in
     let w = puts_whole row (bytes_of m) after end all (omega arith) in
     let is : written allowed m row ≡ at_start (bytes_of m) row = rw (le-ltb (length row) 512 room, ← t) in
     record {
       told = ap Ok w.0 ∙ sym (ap (λ x. x.told) is);
       row = w.1 ∙ sym (ap (λ x. x.row) is);
-      back = (omega (arith, w.0), good-back m g);
+      back = (omega (arith, w.0), good_back m g);
       front = (λ i. take (w.0 i) (w.1 i)) ∙ take_at (bytes_of m) (drop (length (bytes_of m)) row) (length (bytes_of m)) refl;
     }

@@ -73,11 +73,11 @@ pub puts_fields : {a b c : List ℕ} {i j k : ℕ} (f : List ℕ) (fs : List (Li
 puts_fields f fs p q = puts_two (colon f) (flat_map colon fs) p q
 
 module _ {X : Type 0} (f : X → List (List ℕ)) (xs : List X) (i : ℕ) {a b : List ℕ} {k m : ℕ} (p : Puts a k (flat_map colon (flat_map f (take i xs))) b m) where
-  pub puts-more : {c : List ℕ} {n : ℕ} (x d : X) → i < length xs → x ≡ get_or xs i d → Puts b m (flat_map colon (f x)) c n → Puts a k (flat_map colon (flat_map f (take (i + 1) xs))) c n
-  puts-more x d h e q = puts_as _ _ (group_more f xs i x h (e ∙ get_or_default xs i d x h)) (puts_two (flat_map colon (flat_map f (take i xs))) (flat_map colon (f x)) p q)
+  pub puts_more : {c : List ℕ} {n : ℕ} (x d : X) → i < length xs → x ≡ get_or xs i d → Puts b m (flat_map colon (f x)) c n → Puts a k (flat_map colon (flat_map f (take (i + 1) xs))) c n
+  puts_more x d h e q = puts_as _ _ (group_more f xs i x h (e ∙ get_or_default xs i d x h)) (puts_two (flat_map colon (flat_map f (take i xs))) (flat_map colon (f x)) p q)
 
-  pub puts-all : length xs ≤ i → Puts a k (flat_map colon (flat_map f xs)) b m
-  puts-all h = puts_as _ _ (ap (λ l. flat_map colon (flat_map f l)) (take_all i xs h)) p
+  pub puts_all : length xs ≤ i → Puts a k (flat_map colon (flat_map f xs)) b m
+  puts_all h = puts_as _ _ (ap (λ l. flat_map colon (flat_map f l)) (take_all i xs h)) p
 
 -- a brace and the fields of a head
 pub puts_head : {r₀ r₁ r₂ r₃ r₄ r₅ : List ℕ} {i₀ i₁ i₂ i₃ i₄ i₅ : ℕ} (v d n c v' d' c' : List ℕ) → v' ≡ v → d' ≡ d → c' ≡ c → Puts r₀ i₀ (123 ∷ []) r₁ i₁ → Puts r₁ i₁ v' r₂ i₂ → Puts r₂ i₂ (colon d') r₃ i₃ → Puts r₃ i₃ (colon n) r₄ i₄ → Puts r₄ i₄ (colon c') r₅ i₅ → Puts r₀ i₀ (123 ∷ parted (v ∷ d ∷ n ∷ c ∷ [])) r₅ i₅

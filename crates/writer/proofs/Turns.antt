@@ -23,10 +23,10 @@ pub fewer : {X : Type 0} (xs ys : List X) (x : X) → Some x ≡ first xs → ys
 fewer xs ys x e d = let l : length xs ≡ length (x ∷ ys) = ap length (first_is xs ys x e d) in omega arith
 
 module _ {X : Type 0} (f : X → List (List ℕ)) (xs : List X) {before row : List ℕ} {at here : ℕ} (all : List ℕ) (left : Left before at all row here (flat_map colon (flat_map f xs))) where
-  pub left-more : {row' : List ℕ} {here' : ℕ} (ys : List X) (x : X) → Some x ≡ first xs → ys ≡ drop 1 xs → Puts row here (flat_map colon (f x)) row' here' → Left before at all row' here' (flat_map colon (flat_map f ys))
-  left-more ys x e d p after end q =
+  pub left_more : {row' : List ℕ} {here' : ℕ} (ys : List X) (x : X) → Some x ≡ first xs → ys ≡ drop 1 xs → Puts row here (flat_map colon (f x)) row' here' → Left before at all row' here' (flat_map colon (flat_map f ys))
+  left_more ys x e d p after end q =
       let s : flat_map colon (f x) ++ flat_map colon (flat_map f ys) ≡ flat_map colon (flat_map f xs) = sym (joined_append colon (f x) (flat_map f ys)) ∙ ap (λ l. flat_map colon (flat_map f l)) (sym (first_is xs ys x e d)) in
       left after end (puts_as _ _ s (puts_two (flat_map colon (f x)) (flat_map colon (flat_map f ys)) p q))
 
-  pub left-none : None ≡ first xs → Puts before at all row here
-  left-none e = left row here (puts_as _ _ (ap (λ l. flat_map colon (flat_map f l)) (sym (first_none xs e))) (puts_none row here))
+  pub left_none : None ≡ first xs → Puts before at all row here
+  left_none e = left row here (puts_as _ _ (ap (λ l. flat_map colon (flat_map f l)) (sym (first_none xs e))) (puts_none row here))

@@ -3,8 +3,8 @@ use Rattle.std.proofs.lemmas.Bool.{le-leb}
 use Rattle.arguments.proofs.Digits.{no_text, parse_of}
 use Rattle.arguments.proofs.numbers.natural.Goals as goal
 
-pub returns-in-default : goal.returns-in-default
-returns-in-default c = record { value = sym (no_text c.args.top c.args.word.now c.in-default.ensures.cases.0); bound = tt }
+pub returns-in_default : goal.returns-in_default
+returns-in_default c = record { value = sym (no_text c.args.top c.args.word.now c.in_default.ensures.cases.0); bound = tt }
 
 pub returns-then-n-top : goal.returns-then-n-top
 returns-then-n-top c =

@@ -1,6 +1,6 @@
 use Rattle.std.proofs.Common.{◌≡◌, ◌*◌, ◌^◌, leb, ◌∙◌}
 use Rattle.decimal.specs.Range.{at_most}
-use Rattle.decimal.proofs.Ranges.{size_of, size_is, sizes, by-power, by_front, by-neither}
+use Rattle.decimal.proofs.Ranges.{size_of, size_is, sizes, by_power, by_front, by_neither}
 use Rattle.decimal.proofs.range.at_most.Goals as goal
 use Rattle.decimal.proofs.range.at_most.Goals.{After-aligned-y, Then-p-q, Then-p-q-2, Else-p-q-2}
 
@@ -16,7 +16,7 @@ order c = sizes c.args.a c.args.b c.requires.a_bounds.0 c.requires.b_bounds.0
 pub returns-then-p-q : goal.returns-then-p-q
 returns-then-p-q c =
     let d = (goal.at.returns-then-p-q c).After-aligned-y in
-    by-power _ _ _ _ _ _ (left d) (right d) c.aligned-x.ensures.full c.aligned-y.ensures.full c.if-p-q.true ∙ order d
+    by_power _ _ _ _ _ _ (left d) (right d) c.aligned-x.ensures.full c.aligned-y.ensures.full c.if-p-q.true ∙ order d
 
 pub returns-then-p-q-2 : goal.returns-then-p-q-2
 returns-then-p-q-2 c =
@@ -26,4 +26,4 @@ returns-then-p-q-2 c =
 pub returns-else-p-q-2 : goal.returns-else-p-q-2
 returns-else-p-q-2 c =
     let d = (goal.at.returns-else-p-q-2 c).After-aligned-y in
-    by-neither _ _ _ _ _ _ (left d) (right d) c.aligned-x.ensures.full c.aligned-y.ensures.full c.if-p-q.false c.if-p-q-2.false ∙ order d
+    by_neither _ _ _ _ _ _ (left d) (right d) c.aligned-x.ensures.full c.aligned-y.ensures.full c.if-p-q.false c.if-p-q-2.false ∙ order d

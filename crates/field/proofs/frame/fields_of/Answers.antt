@@ -1,5 +1,5 @@
 use Rattle.std.proofs.Common.{sym}
-use Rattle.field.proofs.Braces.{fields-there, no_text, body-ends}
+use Rattle.field.proofs.Braces.{fields_there, no_text, body_ends}
 use Rattle.field.proofs.frame.fields_of.Goals as goal
 
 pub returns-in_default-from_utf8 : goal.returns-in_default-from_utf8
@@ -16,6 +16,6 @@ returns c =
     let body = c.in-Some.body.now in
     let text = c.in-Ok.text.now in
     record {
-      fields = sym (fields-there bs body c.if-packet-gt512.false c.in-Some.ensures text told.0 told.1);
-      place = body-ends bs body c.if-packet-gt512.false c.in-Some.ensures text told.0;
+      fields = sym (fields_there bs body c.if-packet-gt512.false c.in-Some.ensures text told.0 told.1);
+      place = body_ends bs body c.if-packet-gt512.false c.in-Some.ensures text told.0;
     }

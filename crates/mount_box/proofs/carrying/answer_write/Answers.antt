@@ -1,6 +1,6 @@
 use Rattle.std.proofs.Common.{take}
 use Rattle.packet.specs.Cursors.{writes_ahead}
-use Rattle.mount_box.proofs.Answering.{write-answers}
+use Rattle.mount_box.proofs.Answering.{write_answers}
 use Rattle.mount_box.proofs.carrying.answer_write.Goals as goal
 
 pub returns : goal.returns
@@ -9,7 +9,7 @@ returns g c =
     let wrote = c.write_write_answer.ensures in
     record {
       answer =
-          write-answers (g.S.Store.meaning c.args.store.now) c.args.version c.args.number c.write_write_answer.result c.args.row.now c.write_write_answer.new.row c.requires.room
+          write_answers (g.S.Store.meaning c.args.store.now) c.args.version c.args.number c.write_write_answer.result c.args.row.now c.write_write_answer.new.row c.requires.room
           cs (writes_ahead c.args.writes) c.write_all-count.ensures.codes c.requires.groups wrote.told wrote.row;
       after = c.write_all-count.ensures.after;
     }

@@ -1,6 +1,6 @@
 use Rattle.std.proofs.Common.{ℕ, List, length, Some, ap, ◌∙◌, arith}
 use Rattle.packet.specs.Cursors.{writes_ahead}
-use Rattle.mount_box.proofs.Turns.{first_some, codes-more, after_more}
+use Rattle.mount_box.proofs.Turns.{first_some, codes_more, after_more}
 use Rattle.mount_box.proofs.carrying.write_all.Goals as goal
 
 pub loop-write-preserved : goal.loop-write-preserved
@@ -15,7 +15,7 @@ loop-write-preserved g c =
     let m = g.S.Store.meaning c.loop-write.store in
     let l = g.S.Store.meaning c.write_text.new.store in
     let put = c.write_text.ensures in (
-      codes-more m l w xs ys s put.after c.loop-write.codes c.loop-write.count c.write_text.result (omega arith) put.code ∙ c.loop-write.invariant.0,
+      codes_more m l w xs ys s put.after c.loop-write.codes c.loop-write.count c.write_text.result (omega arith) put.code ∙ c.loop-write.invariant.0,
       after_more m l w xs ys s put.after ∙ c.loop-write.invariant.1,
       omega arith,
     )

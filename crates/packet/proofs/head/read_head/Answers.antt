@@ -1,7 +1,7 @@
 use Rattle.std.proofs.Common.{ap, ◌∙◌}
 use Rattle.field.specs.Fields.{first}
 use Rattle.field.specs.Parts.{fields_left}
-use Rattle.packet.proofs.Steps.{after_two, after-three, after-four, head_from}
+use Rattle.packet.proofs.Steps.{after_two, after_three, after_four, head_from}
 use Rattle.packet.proofs.head.read_head.Goals as goal
 
 pub returns : goal.returns
@@ -18,9 +18,9 @@ returns c =
     let p = a.field in
     let q = b.field ∙ ap first a.after in
     let r = d.field ∙ ap first (after_two f₀ f₁ f₂ f₃ a.after b.after d.after) in
-    let s = e.field ∙ ap first (after-three f₀ f₁ f₂ f₃ a.after b.after d.after) in
+    let s = e.field ∙ ap first (after_three f₀ f₁ f₂ f₃ a.after b.after d.after) in
     record {
       head = head_from f₀ _ _ _ _ c.head_by.ensures p q r s;
-      after = after-four f₀ f₁ f₂ f₃ a.after b.after d.after f₄ e.after;
+      after = after_four f₀ f₁ f₂ f₃ a.after b.after d.after f₄ e.after;
       onward = λ packet h. e.onward packet (d.onward packet (b.onward packet (a.onward packet h)));
     }

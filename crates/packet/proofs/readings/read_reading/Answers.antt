@@ -2,7 +2,7 @@ use Rattle.std.proofs.Common.{ap, ◌∙◌}
 use Rattle.std.proofs.lemmas.Result.{MatchResult-weaker}
 use Rattle.field.specs.Fields.{first}
 use Rattle.field.specs.Parts.{fields_left}
-use Rattle.packet.proofs.Steps.{after_two, after-three, reading_from}
+use Rattle.packet.proofs.Steps.{after_two, after_three, reading_from}
 use Rattle.packet.proofs.readings.read_reading.Goals as goal
 
 pub returns : goal.returns
@@ -19,7 +19,7 @@ returns c =
     record {
       group = reading_from f₀ _ _ _ c.reading_by.ensures.group a.field q r;
       bound = c.reading_by.ensures.bound;
-      after = after-three f₀ f₁ f₂ f₃ a.after b.after d.after;
+      after = after_three f₀ f₁ f₂ f₃ a.after b.after d.after;
       place = MatchResult-weaker c.reading_by.result c.reading_by.ensures.place (λ x h packet w. h packet (d.place packet (b.onward packet (a.onward packet w)))) (λ _ u. u);
       onward = λ packet h. d.onward packet (b.onward packet (a.onward packet h));
     }

@@ -4,5 +4,5 @@ use Rattle.telling.proofs.groups.tell_number.Goals as goal
 
 pub returns : goal.returns
 returns c =
-    added_more (codes " ") (vec_items c.extend-from-slice.new.self) _ _ _ _ c.in-ok-extend-from-slice.ensures.items
-    (added_slice _ _ _ _ _ (c.as-bytes.ensures ∙ c.new.ensures) c.extend-from-slice-2.ensures.items)
+    added_more (codes " ") (vec_items c.extend_from_slice.new.self) _ _ _ _ c.in_ok-extend_from_slice.ensures.items
+    (added_slice _ _ _ _ _ (c.as_bytes.ensures ∙ c.new.ensures) c.extend_from_slice-2.ensures.items)

@@ -7,6 +7,6 @@ use Rattle.telling.proofs.groups.tell_refusal.Goals as goal
 pub returns : goal.returns
 returns c =
     let n = refusal_number c.args.refusal in
-    added_more (codes "refused") (vec_items c.extend-from-slice.new.self) _ _ _ _ c.in-ok-extend-from-slice.ensures.items
-    (added_more (number_word n) (vec_items c.tell-number.new.out) _ _ _ _ (with_number _ _ _ n (c.from.ensures ∙ c.number.ensures) c.in-ok-tell-number.ensures)
-    (added_as _ _ _ _ _ (ap field_word c.field.ensures) c.tell-field.ensures))
+    added_more (codes "refused") (vec_items c.extend_from_slice.new.self) _ _ _ _ c.in_ok-extend_from_slice.ensures.items
+    (added_more (number_word n) (vec_items c.tell_number.new.out) _ _ _ _ (with_number _ _ _ n (c.from.ensures ∙ c.number.ensures) c.in_ok-tell_number.ensures)
+    (added_as _ _ _ _ _ (ap field_word c.field.ensures) c.tell_field.ensures))

@@ -5,7 +5,7 @@ use Rattle.packet.specs.Groups.{KeptReadout}
 use Rattle.writer.specs.Again.{again_readout}
 use Rattle.writer.specs.Bytes.{colon, readout_fields}
 use Rattle.writer.proofs.Rows.{puts_as, joined_map}
-use Rattle.writer.proofs.Turns.{first_is, left-more, left-none}
+use Rattle.writer.proofs.Turns.{first_is, left_more, left_none}
 use Rattle.writer.proofs.again.put_readings_again.Goals as goal
 
 pub loop-reading-preserved : goal.loop-reading-preserved
@@ -17,7 +17,7 @@ loop-reading-preserved c k =
     let inv = c.loop-reading.invariant k in
     let kept = subst (AllByRecursion KeptReadout) (first_is xs ys x told.value told.after) inv.0 in (
       kept.1,
-      left-more (λ x. readout_fields (again_readout x)) xs (flat_map colon (flat_map (λ x. readout_fields (again_readout x)) (readings_ahead c.args.readings))) inv.1
+      left_more (λ x. readout_fields (again_readout x)) xs (flat_map colon (flat_map (λ x. readout_fields (again_readout x)) (readings_ahead c.args.readings))) inv.1
           ys x told.value told.after (c.put_reading_again-at.ensures kept.0),
     )
 
@@ -25,4 +25,4 @@ pub returns : goal.returns
 returns c k =
     let all = readings_ahead c.args.readings in
     puts_as _ _ (ap (flat_map colon) (sym (joined_map readout_fields again_readout all)))
-    (left-none (λ x. readout_fields (again_readout x)) (readings_ahead c.loop-reading.readings) (flat_map colon (flat_map (λ x. readout_fields (again_readout x)) all)) (c.loop-reading.invariant k).1 c.in_default.ensures.value)
+    (left_none (λ x. readout_fields (again_readout x)) (readings_ahead c.loop-reading.readings) (flat_map colon (flat_map (λ x. readout_fields (again_readout x)) all)) (c.loop-reading.invariant k).1 c.in_default.ensures.value)

@@ -13,13 +13,13 @@ use Rattle.catalogue.specs.Judging.{judged, asked_by, placed}
 use Rattle.catalogue.specs.Promises.{Back}
 use Rattle.catalogue.specs.Views.{station_of}
 use Rattle.catalogue.proofs.Listed.{listed}
-use Rattle.catalogue.proofs.Openings.{opening-refused, row_written, opening-noted, opening-back}
-use Rattle.catalogue.proofs.Promised.{Opened, opened-all}
+use Rattle.catalogue.proofs.Openings.{opening_refused, row_written, opening_noted, opening_back}
+use Rattle.catalogue.proofs.Promised.{Opened, opened_all}
 use Rattle.catalogue.proofs.catalogue.Catalogue.open_write.Goals as goal
 
 -- what is ensured of an opening that is equal to its definition
 fulfilled : (s : Station) (slab : List ℕ) (k time : ℕ) (xs : List Change) → length s.partners ≤ 16 → (o : Opening) → o ≡ opening s slab k time (changes_allowed xs) (write_request (map change_of xs)) → Opened s slab k o.answer o.after o.slab
-fulfilled s slab k time xs few o e = subst (λ (x : Opening). Opened s slab k x.answer x.after x.slab) (sym e) (opened-all s slab k time (changes_allowed xs) (write_request (map change_of xs)) few)
+fulfilled s slab k time xs few o e = subst (λ (x : Opening). Opened s slab k x.answer x.after x.slab) (sym e) (opened_all s slab k time (changes_allowed xs) (write_request (map change_of xs)) few)
 
 pub returns-in_err-free : goal.returns-in_err-free
 returns-in_err-free c =
@@ -30,7 +30,7 @@ returns-in_err-free c =
     let reason = c.in_err-free.field-0.0 in
     let r : c.from_residual.result ≡ Err reason = p.1 ∙ ap Err p.2 in
     let j : judged s (length slab) c.args.partner c.args.time (changes_allowed xs) ≡ Err reason = ap (λ b. judged s (length slab) c.args.partner c.args.time b) (sym c.changes_allowed-allowed.ensures) ∙ sym c.free_partner.ensures.answer ∙ c.in_err-free.was in
-    let e = opening-refused s slab c.args.partner c.args.time (changes_allowed xs) (write_request (map change_of xs)) c.from_residual.result reason r j in
+    let e = opening_refused s slab c.args.partner c.args.time (changes_allowed xs) (write_request (map change_of xs)) c.from_residual.result reason r j in
     let f = fulfilled s slab c.args.partner c.args.time xs (omega (arith, listed c.args.self.now)) _ e in
     record {
       answer = ap (λ x. x.answer) e;
@@ -63,7 +63,7 @@ returns c =
     let j : judged s (length slab) c.args.partner c.args.time (changes_allowed xs) ≡ Ok p = ap (λ b. judged s (length slab) c.args.partner c.args.time b) (sym c.changes_allowed-allowed.ensures) ∙ sym c.free_partner.ensures.answer ∙ c.in_ok-free.was in
     let few : length s.partners ≤ 16 = omega (arith, listed c.args.self.now) in
     let told = sym c.in_ok-length.was ∙ c.write_write_request.ensures.told in
-    let e = opening-noted s slab c.args.partner c.args.time (changes_allowed xs) (write_request (map change_of xs)) p j c.in_ok-free.ensures.free few
+    let e = opening_noted s slab c.args.partner c.args.time (changes_allowed xs) (write_request (map change_of xs)) p j c.in_ok-free.ensures.free few
     c.in_ok-length.length c.write_write_request.new.row c.note.result told c.write_write_request.ensures.row c.in_ok-length.ensures.back c.note.ensures.answer
     (station_of c.note.new.self) (c.note.ensures.after ∙ ap (λ n. placed s c.args.partner (asked_by s.timing c.args.time Write n c.in_ok-length.length p) c.args.time (count_opened s.counts)) (sym (length-map xs change_of))) in
     let f = fulfilled s slab c.args.partner c.args.time xs few _ e in
@@ -74,6 +74,6 @@ returns c =
       counts = f.0;
       others = f.1;
       rest = f.2;
-      back = opening-back s slab c.args.partner c.args.time (changes_allowed xs) (write_request (map change_of xs)) p j c.in_ok-free.ensures.free few
+      back = opening_back s slab c.args.partner c.args.time (changes_allowed xs) (write_request (map change_of xs)) p j c.in_ok-free.ensures.free few
           c.in_ok-length.length c.write_write_request.new.row c.note.result told c.write_write_request.ensures.row c.in_ok-length.ensures.back c.note.ensures.answer;
     }

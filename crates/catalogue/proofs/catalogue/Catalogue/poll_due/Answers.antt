@@ -6,11 +6,11 @@ use Rattle.catalogue.specs.Judging.{placed}
 use Rattle.catalogue.specs.Kept.{Kept}
 use Rattle.catalogue.specs.Views.{station_of}
 use Rattle.catalogue.proofs.Listed.{listed}
-use Rattle.catalogue.proofs.Keeps.{small, kept-repeated, kept-settled, in-range, repeats-left}
+use Rattle.catalogue.proofs.Keeps.{small, kept_repeated, kept_settled, in_range, repeats_left}
 use Rattle.catalogue.proofs.catalogue.Catalogue.poll_due.Goals as goal
 
 pub is_spent-requires : goal.is_spent-requires
-is_spent-requires c = (in-range (station_of c.args.self.now) c.args.k c.args.time c.args.partner c.args.self.now.kept c.requires.0 c.args.waiting c.requires.1).0
+is_spent-requires c = (in_range (station_of c.args.self.now) c.args.k c.args.time c.args.partner c.args.self.now.kept c.requires.0 c.args.waiting c.requires.1).0
 
 pub overflow_add-counts : goal.overflow_add-counts
 overflow_add-counts c =
@@ -21,7 +21,7 @@ overflow_add-counts c =
 pub put-requires : goal.put-requires
 put-requires c =
     let s = station_of c.args.self.now in
-    let k = kept-settled s c.args.k c.args.time c.args.partner c.args.self.now.kept c.requires.0 c.args.waiting c.requires.1 (count_failed s.counts) refl refl (omega arith) in
+    let k = kept_settled s c.args.k c.args.time c.args.partner c.args.self.now.kept c.requires.0 c.args.waiting c.requires.1 (count_failed s.counts) refl refl (omega arith) in
     (c.requires.0.known, subst (λ q. Kept (placed s c.args.k q c.args.time (count_failed s.counts))) (sym c.with.ensures) k)
 
 pub overflow_add-counts-2 : goal.overflow_add-counts-2
@@ -34,14 +34,14 @@ pub longer-requires : goal.longer-requires
 longer-requires c =
     let s = station_of c.args.self.now in
     let left : spent s.timing c.args.waiting ≡ false = sym c.is_spent.ensures ∙ c.if-is_spent.false in
-    let r = in-range s c.args.k c.args.time c.args.partner c.args.self.now.kept c.requires.0 c.args.waiting c.requires.1 in
-    (r.0, (repeats-left s c.args.k c.args.time c.args.partner c.args.self.now.kept c.requires.0 c.args.waiting c.requires.1 left, c.requires.0.timely))
+    let r = in_range s c.args.k c.args.time c.args.partner c.args.self.now.kept c.requires.0 c.args.waiting c.requires.1 in
+    (r.0, (repeats_left s c.args.k c.args.time c.args.partner c.args.self.now.kept c.requires.0 c.args.waiting c.requires.1 left, c.requires.0.timely))
 
 pub put-requires-2 : goal.put-requires-2
 put-requires-2 c =
     let s = station_of c.args.self.now in
     let left : spent s.timing c.args.waiting ≡ false = sym c.is_spent.ensures ∙ c.if-is_spent.false in
-    let k = kept-repeated s c.args.k c.args.time c.args.partner c.args.self.now.kept c.requires.0 c.args.waiting c.requires.1 left in
+    let k = kept_repeated s c.args.k c.args.time c.args.partner c.args.self.now.kept c.requires.0 c.args.waiting c.requires.1 left in
     let q : c.with-again.result ≡ with_waiting c.args.partner (longer c.args.time c.args.waiting) = c.with-again.ensures ∙ ap (with_waiting c.args.partner) c.longer.ensures in
     (c.requires.0.known, subst (λ q. Kept (placed s c.args.k q c.args.time (count_repeated s.counts))) (sym q) k)
 

@@ -4,7 +4,7 @@ use Rattle.catalogue.specs.Judging.{placed}
 use Rattle.catalogue.specs.Kept.{Kept}
 use Rattle.catalogue.specs.Views.{station_of}
 use Rattle.catalogue.proofs.Listed.{listed}
-use Rattle.catalogue.proofs.Keeps.{small, kept-settled}
+use Rattle.catalogue.proofs.Keeps.{small, kept_settled}
 use Rattle.catalogue.proofs.Receipts.{known_found}
 use Rattle.catalogue.proofs.catalogue.Catalogue.withdraw.Goals as goal
 
@@ -20,5 +20,5 @@ put-requires c =
     let p = c.in_ok-asking.asking in
     let k = c.args.partner in
     let f = known_found s k s.clock p c.args.self.now.kept.0.1 (sym c.known.ensures ∙ c.in_ok-asking.was) in
-    let t = kept-settled s k s.clock p c.args.self.now.kept f c.in-Some.waiting c.in-Some.is (count_withdrawn s.counts) refl refl (omega arith) in
+    let t = kept_settled s k s.clock p c.args.self.now.kept f c.in-Some.waiting c.in-Some.is (count_withdrawn s.counts) refl refl (omega arith) in
     (f.known, subst (λ q. Kept (placed s k q s.clock (count_withdrawn s.counts))) (sym c.with.ensures) t)

@@ -2,7 +2,7 @@ use Rattle.std.proofs.Common.{drop, Some, None, sym, ap, ◌∙◌, subst, arith
 use Rattle.std.proofs.lemmas.Str.Pattern.{split_parts}
 use Rattle.field.specs.Fields.{first}
 use Rattle.field.specs.Parts.{fields_in, Found}
-use Rattle.field.proofs.Splits.{split_is, Ends, front_ends, behind-ends}
+use Rattle.field.proofs.Splits.{split_is, Ends, front_ends, behind_ends}
 use Rattle.field.proofs.fields.Fields.next_field.Goals as goal
 
 pub returns-in-Some : goal.returns-in-Some
@@ -19,7 +19,7 @@ returns-in-Some c =
       field = sym (ap first e);
       after = sym (ap (drop 1) e);
       place = λ packet h. subst (λ k. Ends packet k text) (sym c.saturating_sub-end.ensures) (front_ends packet bs text behind rest.end parts (subst (Found packet) was h));
-      onward = λ packet h. behind-ends packet bs text behind rest.end parts (subst (Found packet) was h);
+      onward = λ packet h. behind_ends packet bs text behind rest.end parts (subst (Found packet) was h);
     }
 
 pub returns-in-None : goal.returns-in-None

@@ -3,7 +3,7 @@ use Rattle.field.specs.Fields.{fields}
 use Rattle.field.specs.Parts.{part_bytes, fields_left}
 use Rattle.field.proofs.Splits.{fields_some}
 use Rattle.packet.specs.Groups.{code_group}
-use Rattle.packet.proofs.Ahead.{Passed, passed-more, passed_over, passed-broken, passed-all, passed_some}
+use Rattle.packet.proofs.Ahead.{Passed, passed_more, passed_over, passed_broken, passed_all, passed_some}
 use Rattle.packet.proofs.codes.Codes.read.Goals as goal
 
 pub returns-then-count-eq10 : goal.returns-then-count-eq10
@@ -19,7 +19,7 @@ returns-then-count-eq10 c =
 pub loop-rest-preserved : goal.loop-rest-preserved
 loop-rest-preserved c =
     let told = c.in-Ok.ensures in
-    (omega arith, passed-more 1 code_group c.loop-rest.count (fields (part_bytes c.args.payload)) (fields_left c.loop-rest.rest) c.loop-rest.invariant.1 _ (fields_left c.read_code.new.fields) told.group told.after)
+    (omega arith, passed_more 1 code_group c.loop-rest.count (fields (part_bytes c.args.payload)) (fields_left c.loop-rest.rest) c.loop-rest.invariant.1 _ (fields_left c.read_code.new.fields) told.group told.after)
 
 pub returns-in-Err : goal.returns-in-Err
 returns-in-Err c =
@@ -28,7 +28,7 @@ returns-in-Err c =
     let n = c.loop-rest.count in
     record {
       groups =
-          ap Err (omega arith) ∙ passed-broken 1 code_group n all rest c.loop-rest.invariant.1 refl 4 1 10 c.in-Err.place c.loop-rest-test.ensures (omega arith) c.in-Err.ensures.group;
+          ap Err (omega arith) ∙ passed_broken 1 code_group n all rest c.loop-rest.invariant.1 refl 4 1 10 c.in-Err.place c.loop-rest-test.ensures (omega arith) c.in-Err.ensures.group;
       count = tt;
     }
 
@@ -41,6 +41,6 @@ returns c =
     let done = c.loop-rest-test.ensures in
     let some = passed_some 1 code_group n all rest p done (fields_some (part_bytes c.args.payload)) in
     record {
-      groups = passed-all 1 code_group n all rest p refl 4 1 10 done some c.loop-rest.invariant.0;
+      groups = passed_all 1 code_group n all rest p refl 4 1 10 done some c.loop-rest.invariant.0;
       count = sym p.1;
     }
