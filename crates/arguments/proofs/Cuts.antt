@@ -1,5 +1,5 @@
 -- Words of several parts, and what their readers give.
-use Rattle.std.proofs.Common.{◌≡◌, ℕ, zero, suc, ◌+◌, ◌-◌, ◌<◌, ◌≤◌, Bool, eqb, List, [], ◌∷◌, length, get_or, take, drop, IsErrAnd, Some, None, Ok, Err, vec_items, Option, Result, sym, refl, ap, ◌∙◌, add-one, arith}
+use Rattle.std.proofs.Common.{◌≡◌, ℕ, zero, suc, ◌+◌, ◌-◌, ◌<◌, Bool, List, [], ◌∷◌, length, get_or, take, drop, IsErrAnd, Some, None, Ok, Err, vec_items, Option, Result, refl, add-one, arith}
 use Rattle.std.specs.Option.{option_map, ok_or}
 use Rattle.std.specs.declared.alloc.Global.{Global}
 use Rattle.std.proofs.lemmas.List.{take_rest}
@@ -10,7 +10,7 @@ use Rattle.protocol.specs.declared.kind.Kind.TheVariants as K
 use Rattle.value.specs.Values.{Datum, value_read}
 use Rattle.field.specs.Numerals.{numeral}
 use Rattle.notation.specs.Strings.{word_of}
-use Rattle.arguments.specs.Parts.{cut_at, onto, fixed_of, item_of, star_of, change_of}
+use Rattle.arguments.specs.Parts.{cut_at, fixed_of, item_of, star_of, change_of}
 use Rattle.notation.specs.Readings.{Understood}
 use Rattle.notation.specs.declared.trouble.Trouble.{Trouble}
 use Rattle.notation.specs.declared.trouble.Trouble.TheVariants.{NotUnderstood, NoMemory}

@@ -1,6 +1,6 @@
 -- Numerals in a word, against what `parse` reads.
 use Rattle.std.proofs.Common.{◌≡◌, ℕ, ◌^◌, ◌<◌, ◌≤◌, cond, leb, List, length, get_or, Some, None, Ok, Err, IsUtf8, Result, sym, ap, ◌∙◌, ⊎_elim, arith, MatchResult}
-use Rattle.std.specs.Str.Parse.{digits_value, ParsesUnsigned}
+use Rattle.std.specs.Str.Parse.{ParsesUnsigned}
 use Rattle.std.proofs.lemmas.Str.Ascii.{IsAscii-from_reads}
 use Rattle.std.proofs.lemmas.Str.Parse.{digit_at, parse_plain}
 use Rattle.std.proofs.lemmas.Bool.{cases_lt, le-leb, lt-leb}

@@ -1,5 +1,5 @@
 -- The words for types are characters.
-use Rattle.std.proofs.Common.{◌≡◌, ℕ, List, Some, None, IsUtf8, Option, sym, refl, ◌∙◌, subst, inl, inr}
+use Rattle.std.proofs.Common.{◌≡◌, ℕ, List, None, IsUtf8, Option, sym, refl, ◌∙◌, subst, inl, inr}
 use lib.Utf8.{encode}
 use Rattle.std.specs.Str.{bytes_eq}
 use Rattle.std.proofs.lemmas.Slice.Eq.{bytes_eq-Decides}

@@ -1,6 +1,5 @@
 -- What a catalogue keeps true of itself lasts over each of its calls.
-use Rattle.std.proofs.Common.{◌≡◌, ℕ, ◌+◌, ◌*◌, ◌<◌, ◌≤◌, true, false, cond, ltb, leb, ◌⊎◌, List, [], ◌∷◌, ◌++◌, length, get_or, set, is_some, Some, None, sum_by, sym, refl, ap, ◌∙◌, subst, inl, inr, arith}
-use Rattle.std.specs.List.{AllByRecursion}
+use Rattle.std.proofs.Common.{◌≡◌, ℕ, ◌+◌, ◌*◌, ◌<◌, ◌≤◌, true, false, cond, leb, ◌⊎◌, List, [], ◌∷◌, ◌++◌, length, get_or, set, is_some, Some, None, sum_by, sym, refl, ap, ◌∙◌, subst, inl, inr, arith}
 use Rattle.std.proofs.ByRecursion.{All-from_get_or, sum_by_le}
 use Rattle.std.proofs.lemmas.List.{get_or-set_same, get_or-set_other, get_or_append_left, get_or_push, get_or_past, length_push}
 use Rattle.std.proofs.lemmas.List.Sums.{sum_by-cons, sum_by-set, sum_by_push}
@@ -11,8 +10,7 @@ use Rattle.catalogue.specs.declared.partner.Waiting.{Waiting}
 use Rattle.catalogue.specs.declared.told.Counts.{Counts}
 use Rattle.catalogue.specs.Stations.{Timing, Station, timely, newcomer, freed, waiting_in}
 use Rattle.catalogue.specs.Opening.{partner, count_opened}
-use Rattle.catalogue.specs.Polling.{spent, longer, with_waiting, count_repeated, count_failed}
-use Rattle.catalogue.specs.Receiving.{count_answered}
+use Rattle.catalogue.specs.Polling.{spent, longer, with_waiting, count_repeated}
 use Rattle.catalogue.specs.Judging.{Found, Free, asked_by, placed}
 use Rattle.catalogue.specs.Kept.{repeats_in, interval_in, numbers_of, repeats_of, settled, Fair, Kept}
 use Rattle.catalogue.proofs.Listed.{grown}

@@ -1,12 +1,12 @@
 -- The partners that are enlisted stand at the front of sixteen places.
-use Rattle.std.proofs.Common.{◌≡◌, ℕ, ◌+◌, ◌<◌, ◌≤◌, Bool, cond, ltb, leb, List, [], ◌∷◌, ◌++◌, length, get_or, take, set, Ok, Err, sym, ap, ◌∙◌, arith}
+use Rattle.std.proofs.Common.{◌≡◌, ℕ, ◌+◌, ◌<◌, ◌≤◌, [], ◌∷◌, ◌++◌, length, get_or, set, Ok, ap, arith}
 use lib.Seq.{take-set-lt}
 use Rattle.std.proofs.lemmas.List.{length-take-le, get_or-take, take_more_set}
 use Rattle.std.proofs.lemmas.Bool.{cond-false, or_from, le-ltb, lt-leb}
 use Rattle.catalogue.specs.declared.catalogue.Catalogue.{Catalogue}
 use Rattle.catalogue.specs.declared.partner.Partner.{Partner}
 use Rattle.catalogue.specs.declared.told.Counts.{Counts}
-use Rattle.catalogue.specs.Stations.{Station, Enlisting, newcomer, partner_at, enlisting}
+use Rattle.catalogue.specs.Stations.{Station, newcomer, partner_at, enlisting}
 use Rattle.catalogue.specs.Opening.{partner}
 use Rattle.catalogue.specs.Judging.{placed}
 use Rattle.catalogue.specs.Held.{held}

@@ -1,5 +1,5 @@
 -- Opening goes as the judgement on it says: it is refused, or the packet is written and noted.
-use Rattle.std.proofs.Common.{◌≡◌, ℕ, ◌+◌, ◌-◌, ◌*◌, ◌<◌, ◌≤◌, Bool, true, false, cond, not, ltb, leb, List, ◌++◌, length, take, drop, is_some, Ok, Err, Result, sym, refl, ap, ◌∙◌, subst, arith}
+use Rattle.std.proofs.Common.{◌≡◌, ℕ, ◌+◌, ◌-◌, ◌*◌, ◌<◌, ◌≤◌, Bool, true, false, cond, not, ltb, leb, List, length, take, drop, is_some, Ok, Err, Result, sym, refl, ap, ◌∙◌, arith}
 use borrow.Rule.Slice.PartMut.{put_mid}
 use Rattle.std.proofs.lemmas.List.{length-take-le, length-drop}
 use Rattle.std.proofs.lemmas.Bool.{le-ltb, ltb-false, leb-false, cond-true, cond-false}
@@ -8,7 +8,7 @@ use Rattle.protocol.specs.declared.refusal.Refusal.TheVariants.{Time, ShortMemor
 use Rattle.packet.specs.Messages.{Content, command_of, count_of}
 use Rattle.writer.specs.Bytes.{bytes_of}
 use Rattle.writer.specs.Orders.{asked}
-use Rattle.writer.specs.Written.{Writing, at_start, written, ReadsBack}
+use Rattle.writer.specs.Written.{at_start, written, ReadsBack}
 use Rattle.slab_rows.specs.Places.{piece, part_of}
 use Rattle.slab_rows.specs.Rows.{rowed}
 use Rattle.slab_rows.specs.declared.place.Place.TheVariants.{Slab}
@@ -17,7 +17,7 @@ use Rattle.catalogue.specs.declared.partner.Partner.{Partner}
 use Rattle.catalogue.specs.declared.told.Sent.{Sent}
 use Rattle.catalogue.specs.Stations.{Station, untimely, unknown}
 use Rattle.catalogue.specs.Opening.{Opening, not_opened, partner, asking, count_opened, opened, opening}
-use Rattle.catalogue.specs.Judging.{judged, Found, Free, asked_by, placed}
+use Rattle.catalogue.specs.Judging.{judged, Free, asked_by, placed}
 use Rattle.catalogue.specs.Promises.{PacketThere}
 use Rattle.catalogue.proofs.Promised.{put_there}
 

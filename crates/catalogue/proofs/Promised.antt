@@ -1,5 +1,5 @@
 -- What the calls promise follows from their definitions.
-use Rattle.std.proofs.Common.{◌≡◌, ℕ, ◌+◌, ◌*◌, ◌<◌, ◌≤◌, Bool, true, false, cond, not, ltb, leb, List, ◌++◌, length, get_or, take, drop, set, is_some, Some, None, Ok, Err, Option, Result, sym, refl, ap, ◌∙◌, subst, arith}
+use Rattle.std.proofs.Common.{◌≡◌, ℕ, ◌+◌, ◌*◌, ◌<◌, ◌≤◌, Bool, true, false, not, ltb, leb, List, ◌++◌, length, get_or, take, drop, set, is_some, Some, None, Ok, Err, Option, Result, sym, refl, ap, ◌∙◌, subst, arith}
 use Rattle.std.proofs.lemmas.List.{length-set, get_or-set_other, length-take-le, length-append, length-drop, take_at, drop_at, append_assoc}
 use Rattle.std.proofs.lemmas.Bool.{cond_both, cond-true, ltb-false, leb-false, le-leb}
 use Rattle.protocol.specs.declared.refusal.Refusal.{Refusal}
@@ -10,7 +10,6 @@ use Rattle.packet.specs.Packets.{seen}
 use Rattle.packet.specs.declared.packet.Packet.{Packet}
 use Rattle.writer.specs.Bytes.{bytes_of}
 use Rattle.writer.specs.Orders.{asked}
-use Rattle.writer.specs.Written.{ReadsBack}
 use Rattle.slab_rows.specs.Places.{piece}
 use Rattle.catalogue.specs.declared.partner.Partner.{Partner}
 use Rattle.catalogue.specs.declared.partner.Waiting.{Waiting}
@@ -21,7 +20,7 @@ use Rattle.catalogue.specs.Stations.{Station, newcomer, untimely, unknown, partn
 use Rattle.catalogue.specs.Opening.{Opening, not_opened, partner, opened, opening}
 use Rattle.catalogue.specs.Polling.{Polling, not_polled, at_rest, given_up, sent_again, spent, due, when_due, polling}
 use Rattle.catalogue.specs.Receiving.{Receiving, not_received, agrees, answered, for_waiting, from_partner, by_content, by_packet, receiving}
-use Rattle.catalogue.specs.Promises.{tallied_opening, tallied_polling, tallied_receiving, Others, Outside, Elsewhere, PacketThere, Back}
+use Rattle.catalogue.specs.Promises.{tallied_opening, tallied_polling, tallied_receiving, Others, Elsewhere}
 
 -- no partner changed
 none_changed : (k : ℕ) (s t : Station) → t.partners ≡ s.partners → Others k s t

@@ -5,7 +5,6 @@ use Rattle.std.proofs.lemmas.Bool.{cond-true, cond-false, cond_both, cases_eq, a
 use Rattle.std.proofs.lemmas.Bool.Decides.{nat_tests}
 use Rattle.packet.specs.Messages.{Content, command_of, count_of}
 use Rattle.slab_rows.specs.declared.place.Place.TheVariants.{Slab}
-use Rattle.catalogue.specs.declared.partner.Partner.{Partner}
 use Rattle.catalogue.specs.declared.partner.Waiting.{Waiting}
 use Rattle.catalogue.specs.declared.told.Poll.{Poll}
 use Rattle.catalogue.specs.declared.told.Poll.TheVariants.{Again, Failed}
@@ -13,7 +12,7 @@ use Rattle.catalogue.specs.declared.told.Sent.{Sent}
 use Rattle.catalogue.specs.Stations.{Timing, Station, newcomer, untimely, unknown}
 use Rattle.catalogue.specs.Opening.{partner, asking, opening}
 use Rattle.catalogue.specs.Polling.{longer, with_waiting, spent, sent_again, due, when_due, polling}
-use Rattle.catalogue.specs.Backoff.{poll_time, sends, first_silent, last_poll, gives_up_at, deadline_in, deadline, polled_at_deadlines, PollAt, BacksOff, GivesUp}
+use Rattle.catalogue.specs.Backoff.{poll_time, sends, first_silent, last_poll, deadline_in, deadline, polled_at_deadlines, PollAt, BacksOff, GivesUp}
 use Rattle.catalogue.proofs.Openings.{opening_accepted}
 
 -- twice the interval

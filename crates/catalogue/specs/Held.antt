@@ -2,7 +2,7 @@
 use Rattle.std.specs.Prelude.{ℕ, List, take}
 use Rattle.catalogue.specs.declared.partner.Partner.{Partner}
 use Rattle.catalogue.specs.declared.told.Counts.{Counts}
-use Rattle.catalogue.specs.Stations.{Timing, Station}
+use Rattle.catalogue.specs.Stations.{Station}
 
 -- of the memory for partners, so many are enlisted
 abbrev pub held : ℕ → ℕ → ℕ → ℕ → List Partner → ℕ → Counts → Station

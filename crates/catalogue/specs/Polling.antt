@@ -1,5 +1,5 @@
 -- Polling a partner: nothing is due, the packet is sent again, or the transaction is given up.
-use Rattle.std.specs.Prelude.{ℕ, ◌+◌, ◌*◌, Bool, cond, ◌||◌, List, Some, None, Ok, Err, Option, Result, nat_le, nat_lt, slice_set}
+use Rattle.std.specs.Prelude.{ℕ, ◌+◌, ◌*◌, Bool, cond, ◌||◌, Some, None, Ok, Err, Option, Result, nat_le, nat_lt, slice_set}
 use Rattle.protocol.specs.declared.refusal.Refusal.{Refusal}
 use Rattle.protocol.specs.declared.refusal.Refusal.TheVariants.{Time, Unknown}
 use Rattle.slab_rows.specs.declared.place.Place.TheVariants.{Slab}

@@ -7,7 +7,6 @@ use Rattle.slab_rows.specs.declared.place.Place.{Place}
 use Rattle.slab_rows.specs.declared.place.Place.TheVariants.{Reply}
 use Rattle.field.specs.Words.{command_number}
 use Rattle.packet.specs.Messages.{Message, Content, read_request, write_request, discovery_request, read_answer, write_answer, discovery_answer, command_of, count_of, packet_of}
-use Rattle.catalogue.specs.declared.partner.Partner.{Partner}
 use Rattle.catalogue.specs.declared.partner.Waiting.{Waiting}
 use Rattle.catalogue.specs.declared.told.Counts.{Counts}
 use Rattle.catalogue.specs.Stations.{Station, freed, partner_at, unknown}

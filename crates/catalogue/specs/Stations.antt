@@ -1,10 +1,9 @@
 -- What a catalogue holds, its making, and enlisting.
-use Rattle.std.specs.Prelude.{ℕ, ◌+◌, Bool, cond, not, ◌&&◌, ◌||◌, List, [], ◌∷◌, ◌++◌, length, is_some, Some, None, Ok, Err, Option, Result, ◌==◌, nat_le, nat_lt}
+use Rattle.std.specs.Prelude.{ℕ, ◌+◌, Bool, cond, ◌&&◌, ◌||◌, List, [], ◌∷◌, ◌++◌, length, is_some, None, Ok, Err, Result, ◌==◌, nat_le, nat_lt}
 use Rattle.protocol.specs.declared.refusal.Refusal.{Refusal}
 use Rattle.protocol.specs.declared.refusal.Refusal.TheVariants.{Limit, Enlisted}
 use Rattle.slab_rows.specs.Searches.{first_by}
 use Rattle.catalogue.specs.declared.partner.Partner.{Partner}
-use Rattle.catalogue.specs.declared.partner.Waiting.{Waiting}
 use Rattle.catalogue.specs.declared.told.Counts.{Counts}
 
 -- the first interval, the longest one, and how often a packet is sent again

@@ -1,5 +1,5 @@
 -- Withdrawing the transaction that waits at a partner.
-use Rattle.std.specs.Prelude.{ℕ, ◌+◌, cond, List, Some, None, Ok, Err, Option, Result, slice_set}
+use Rattle.std.specs.Prelude.{ℕ, ◌+◌, cond, Some, None, Ok, Err, Option, Result, slice_set}
 use Rattle.protocol.specs.declared.refusal.Refusal.{Refusal}
 use Rattle.protocol.specs.declared.refusal.Refusal.TheVariants.{Unknown, NoneWaits}
 use Rattle.catalogue.specs.declared.partner.Waiting.{Waiting}

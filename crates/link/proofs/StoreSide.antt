@@ -2,7 +2,7 @@
 --     text_holds    the write of a text keeps it
 --     box_holds     and so do all calls at a box
 use Rattle.std.proofs.Common.{◌≡◌, ℕ, Bool, true, false, cond, not, ◌&&◌, eqb, List, [], ◌∷◌, Some, None, Ok, Err, Option, Result, sym, refl, ap, ◌∙◌, subst}
-use Rattle.std.proofs.lemmas.Bool.{and_right, eqb-true, eqb-false, eq-eqb, ne_eqb, or_parts}
+use Rattle.std.proofs.lemmas.Bool.{and_right, eqb-true, or_parts}
 use Rattle.protocol.specs.Words.{code_number, kind_number}
 use Rattle.protocol.specs.declared.code.Code.TheVariants.{Done, NotFound, WrongType, OutsideLimits}
 use Rattle.protocol.specs.declared.kind.Kind.{Kind}

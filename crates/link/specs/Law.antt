@@ -1,5 +1,5 @@
 -- The law of the link, over every history that can happen.
-use Rattle.std.specs.Prelude.{◌≡◌, ℕ, ◌+◌, ◌<◌, ◌≤◌, true, List, [], length, is_ok, Some, None, Ok, Option, slice_index, slice_index_or}
+use Rattle.std.specs.Prelude.{◌≡◌, ℕ, ◌+◌, ◌<◌, ◌≤◌, true, List, length, is_ok, Some, None, Ok, Option, slice_index, slice_index_or}
 use Rattle.value.specs.Values.{Datum, value_read}
 use Rattle.packet.specs.Messages.{Message, packet_of}
 use Rattle.store.specs.Contents.{Element}

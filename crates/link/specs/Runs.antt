@@ -1,6 +1,6 @@
 -- Histories that can happen: stations that were just created answer each call as their definitions say, and each packet that
 -- arrives was sent to that station by the sender that it bears. Packets may be lost, delayed, repeated and overtaken.
-use Rattle.std.specs.Prelude.{◌≡◌, ℕ, ◌<◌, Bool, true, ◌↔◌, List, [], ◌∷◌, length, replicate, Ok, Result, slice_index}
+use Rattle.std.specs.Prelude.{◌≡◌, ℕ, ◌<◌, Bool, true, ◌↔◌, List, [], ◌∷◌, length, replicate, Ok, slice_index}
 use Rattle.packet.specs.Messages.{discovery_request}
 use Rattle.writer.specs.Bytes.{bytes_of}
 use Rattle.writer.specs.Orders.{asked}
@@ -13,7 +13,7 @@ use Rattle.catalogue.specs.Opening.{opening}
 use Rattle.catalogue.specs.Polling.{polling}
 use Rattle.catalogue.specs.Receiving.{receiving}
 use Rattle.catalogue.specs.Withdrawing.{withdrawing}
-use Rattle.link.specs.Calls.{Order, allowed, requested, Narrow, Opened, opens, Polled, again, CatalogueCall, enlist, open_order, poll, withdraw, receive, discover, BoxCall, handle, owner_write, Event, at_catalogue, at_box, catalogue_calls, box_calls, opened_with, polled_with, replied_with}
+use Rattle.link.specs.Calls.{Order, allowed, requested, Narrow, opens, again, CatalogueCall, enlist, open_order, poll, withdraw, receive, discover, BoxCall, handle, owner_write, Event, at_catalogue, at_box, catalogue_calls, box_calls, opened_with, polled_with, replied_with}
 use Rattle.link.specs.Transactions.{enlisted}
 
 -- a catalogue with its slab

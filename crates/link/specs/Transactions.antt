@@ -3,8 +3,7 @@
 --     moves i cs      what befell the transactions with the i-th partner
 --     waits ms        the numbers of those that wait, the oldest first
 --     tally cs        how many calls of each kind there were
-use Rattle.std.specs.Prelude.{◌≡◌, ℕ, zero, suc, ◌+◌, ◌<◌, Bool, true, false, cond, ◌||◌, ◌↔◌, List, [], ◌∷◌, ◌++◌, length, Some, None, Ok, Err, Option, Result, ◌==◌, nat_eq}
-use Rattle.protocol.specs.declared.refusal.Refusal.{Refusal}
+use Rattle.std.specs.Prelude.{◌≡◌, ℕ, zero, suc, ◌+◌, ◌<◌, Bool, false, cond, ◌||◌, ◌↔◌, List, [], ◌∷◌, ◌++◌, length, Ok, Err, ◌==◌, nat_eq}
 use Rattle.protocol.specs.declared.refusal.Refusal.TheVariants.{NoneWaits}
 use Rattle.packet.specs.Messages.{Message}
 use Rattle.slab_rows.specs.Searches.{first_by}
@@ -14,7 +13,7 @@ use Rattle.catalogue.specs.Opening.{count_opened}
 use Rattle.catalogue.specs.Polling.{count_failed, count_repeated}
 use Rattle.catalogue.specs.Receiving.{count_answered}
 use Rattle.catalogue.specs.Withdrawing.{count_withdrawn}
-use Rattle.link.specs.Calls.{Order, Opened, not_opened, opens, Polled, not_polled, nothing_due, again, failed, CatalogueCall, enlist, open_order, poll, withdraw, receive, discover, Mem}
+use Rattle.link.specs.Calls.{Order, not_opened, opens, not_polled, nothing_due, again, failed, CatalogueCall, enlist, open_order, poll, withdraw, receive, discover, Mem}
 
 -- the addresses enlisted, in order
 abbrev pub enlisted : List CatalogueCall → List ℕ

@@ -1,6 +1,6 @@
 -- Handling keeps its promises.
 --     repeats, groups, others, backs   of a box over a sound store, with its sixteen records
-use Rattle.std.proofs.Common.{◌≡◌, ℕ, zero, suc, ◌+◌, ◌*◌, ◌<◌, ◌≤◌, false, ◌||◌, ltb, List, [], ◌∷◌, map, length, get_or, take, set, Ok, Err, Result, sym, refl, ap, ◌∙◌, subst, inl, arith}
+use Rattle.std.proofs.Common.{◌≡◌, ℕ, zero, suc, ◌+◌, ◌*◌, ◌<◌, ◌≤◌, false, ◌||◌, ltb, List, [], ◌∷◌, map, length, get_or, take, Ok, Err, Result, sym, refl, ap, ◌∙◌, subst, inl, arith}
 use Rattle.std.proofs.lemmas.List.{get_or-set_same, get_or-set_other, get_or-map, length-map}
 use Rattle.std.proofs.lemmas.Bool.{or_from, or_parts, ltb-false, le-ltb, eq-eqb}
 use Rattle.protocol.specs.declared.code.Code.{Code}
@@ -9,7 +9,7 @@ use Rattle.field.specs.declared.words.Direction.TheVariants.{Request}
 use Rattle.packet.specs.Messages.{Message, Content, read_request, write_request, discovery_request, read_answer, write_answer, discovery_answer, direction_of, packet_of}
 use Rattle.writer.specs.Bytes.{bytes_of}
 use Rattle.protocol.specs.Rows.{put_at}
-use Rattle.slab_rows.specs.Places.{piece, part_of}
+use Rattle.slab_rows.specs.Places.{part_of}
 use Rattle.slab_rows.specs.Rows.{rowed}
 use Rattle.slab_rows.specs.declared.place.Place.{Place}
 use Rattle.slab_rows.specs.declared.place.Place.TheVariants.{Slab, Reply}
@@ -18,7 +18,7 @@ use Rattle.store.specs.Owner.{write_text_of}
 use Rattle.mount_box.specs.Senders.{blank, noted, is_of, repeated, due, standing}
 use Rattle.mount_box.specs.Carrying.{coded, shown, write_codes, after_writes, replied, left_by}
 use Rattle.mount_box.specs.Answers.{Orders}
-use Rattle.mount_box.specs.Handling.{Box, Handling, refused, reply_to, discovered, kept, carried, by_standing, by_content, short, handled}
+use Rattle.mount_box.specs.Handling.{Box, Handling, reply_to, discovered, kept, carried, by_standing, by_content, short, handled}
 use Rattle.mount_box.specs.Promises.{Repeats, Groupwise, Groups, Others, ReadsAt, Back}
 use Rattle.mount_box.specs.Views.{outcome}
 use Rattle.mount_box.proofs.Answering.{length_codes}

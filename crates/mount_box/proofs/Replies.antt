@@ -12,7 +12,7 @@ use Rattle.packet.proofs.Bounds.{bounded, kept, goes}
 use Rattle.writer.specs.Bytes.{bytes_of}
 use Rattle.writer.proofs.Goods.{Good, good, good_back, good_size}
 use Rattle.store.specs.Contents.{Contents, Element, Sound, ValidIn, inside, found, refused}
-use Rattle.mount_box.specs.Carrying.{shown_by, shown, write_codes, replied}
+use Rattle.mount_box.specs.Carrying.{shown_by, shown, replied}
 use Rattle.mount_box.specs.Handling.{reply_to}
 use Rattle.mount_box.proofs.Answering.{length_codes}
 

@@ -8,7 +8,7 @@ use borrow.Rule.Slice.PartMut.{put_mid}
 use Rattle.protocol.specs.Rows.{put_at}
 use Rattle.protocol.specs.declared.refusal.Refusal.{Refusal}
 use Rattle.protocol.specs.declared.refusal.Refusal.TheVariants.{ShortMemory}
-use Rattle.field.specs.declared.words.Direction.TheVariants.{Request, Answer}
+use Rattle.field.specs.declared.words.Direction.TheVariants.{Request}
 use Rattle.packet.specs.Messages.{Message, Content, read_request, write_request, discovery_request, read_answer, write_answer, discovery_answer, direction_of, packet_of}
 use Rattle.writer.specs.Bytes.{bytes_of}
 use Rattle.slab_rows.specs.Rows.{rowed}

@@ -20,6 +20,7 @@ use orders::print_orders;
 use sheet::{print_ready, print_rest, print_tally};
 use stars::rows::StarRows;
 use std::io::Read;
+use std::process::ExitCode;
 use std::{env, fs, io};
 use wishes::Wishes;
 
@@ -98,10 +99,12 @@ fn run(rt: &HostRuntime) -> anyhow::Result<()> {
     Ok(())
 }
 
-fn main(rt: HostRuntime) -> anyhow::Result<()> {
-    let result = run(&rt);
-    if let Err(e) = &result {
-        let _ = eprintln!(rt; "pointing: {e}");
+fn main(rt: HostRuntime) -> ExitCode {
+    match run(&rt) {
+        Ok(()) => ExitCode::SUCCESS,
+        Err(e) => {
+            let _ = eprintln!(rt; "pointing: {e}");
+            ExitCode::FAILURE
+        }
     }
-    result
 }

@@ -1,5 +1,5 @@
 -- What a sample says, and when it follows from the rules.
-use Rattle.std.specs.Prelude.{◌≡◌, ℕ, zero, suc, true, false, cond, List, [], ◌∷◌, ◌++◌, map, replicate, Some, None, Ok, Err, codes, Option, Result, ◌==◌}
+use Rattle.std.specs.Prelude.{◌≡◌, ℕ, zero, suc, true, cond, List, [], ◌∷◌, ◌++◌, map, replicate, Some, None, Ok, Err, codes, Option, Result, ◌==◌}
 use Rattle.std.specs.Option.{option_map}
 use Rattle.protocol.specs.Words.{refusal_number, refusal_field}
 use Rattle.protocol.specs.declared.kind.Kind.{Kind}
@@ -7,10 +7,9 @@ use Rattle.protocol.specs.declared.kind.Kind.TheVariants.{St}
 use Rattle.protocol.specs.declared.refusal.Refusal.{Refusal}
 use Rattle.value.specs.Values.{value_read, spelled, words}
 use Rattle.packet.specs.Messages.{Message, read_request, packet_of}
-use Rattle.slab_rows.specs.declared.place.Place.{Place}
 use Rattle.store.specs.Contents.{Contents, free}
 use Rattle.mount_box.specs.Senders.{blank}
-use Rattle.mount_box.specs.Handling.{Box, Handling, handled}
+use Rattle.mount_box.specs.Handling.{Box, handled}
 use Rattle.catalogue.specs.declared.partner.Waiting.{Waiting}
 use Rattle.catalogue.specs.declared.told.Poll.{Poll}
 use Rattle.catalogue.specs.declared.told.Poll.TheVariants.{NothingDue, Again, Failed}

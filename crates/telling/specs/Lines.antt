@@ -5,7 +5,7 @@
 --     reading_word x      a group of a read answer: CODE:TYPE:TEXT
 --     change_word w       a group of a write request: I=TEXT
 --     packet_line m       a packet
-use Rattle.std.specs.Prelude.{ℕ, List, [], ◌∷◌, ◌++◌, Some, None, codes, decimal, Option}
+use Rattle.std.specs.Prelude.{ℕ, List, [], ◌++◌, Some, None, codes, decimal, Option}
 use Rattle.std.specs.List.{flat_map}
 use Rattle.protocol.specs.Words.{kind_word, code_number, refusal_number, refusal_field}
 use Rattle.protocol.specs.declared.code.Code.{Code}

@@ -5,12 +5,12 @@ use Rattle.protocol.specs.declared.refusal.Refusal.TheVariants.{ShortMemory, Lim
 use Rattle.packet.specs.Messages.{Message, packet_of}
 use Rattle.writer.specs.Bytes.{bytes_of}
 
--- the length of what was written or the ground of the refusal, and the row afterwards
+-- the length of what was written or the reason of the refusal, and the row afterwards
 pub record Writing : Type 0 where
   pub told : Result ℕ Refusal
   pub row : List ℕ
 
--- the ground, and the row as it was
+-- the reason, and the row as it was
 abbrev pub refused : Refusal → List ℕ → Writing
 refused reason row = record { told = Err reason; row = row }
 

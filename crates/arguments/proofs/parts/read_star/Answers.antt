@@ -1,4 +1,4 @@
-use Rattle.std.proofs.Common.{◌≡◌, w32, SFits, rules}
+use Rattle.std.proofs.Common.{w32, SFits, rules}
 use Rattle.std.proofs.lemmas.Int.{to_z-of_z}
 use Rattle.arguments.specs.Parts.{star}
 use Rattle.arguments.proofs.Cuts.{is_some, is_none, passed_none, passed_bytes, star_parts}

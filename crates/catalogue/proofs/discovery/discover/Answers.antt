@@ -1,11 +1,10 @@
-use Rattle.std.proofs.Common.{◌≡◌, ℕ, Bool, true, false, cond, ltb, List, ◌++◌, length, drop, Ok, Err, Result, sym, refl, ap, ◌∙◌, arith, lit<}
+use Rattle.std.proofs.Common.{◌≡◌, ℕ, Bool, true, false, cond, ltb, List, ◌++◌, length, drop, Ok, Err, sym, ap, ◌∙◌, arith, lit<}
 use Rattle.std.proofs.lemmas.Fmt.{decimal_digit}
-use Rattle.protocol.specs.declared.refusal.Refusal.{Refusal}
 use Rattle.protocol.specs.declared.refusal.Refusal.TheVariants.{ShortMemory}
 use Rattle.packet.specs.Messages.{discovery_request}
 use Rattle.writer.specs.Bytes.{bytes_of}
 use Rattle.writer.specs.Orders.{asked}
-use Rattle.writer.specs.Written.{Writing, refused, at_start}
+use Rattle.writer.specs.Written.{refused, at_start}
 use Rattle.slab_rows.specs.declared.place.Place.TheVariants.{Reply}
 use Rattle.catalogue.specs.Receiving.{Discovering, discovery_bytes, discovering}
 use Rattle.catalogue.proofs.discovery.discover.Goals as goal

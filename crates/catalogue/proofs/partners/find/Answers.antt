@@ -1,4 +1,4 @@
-use Rattle.std.proofs.Common.{◌≡◌, true, false, get_or, arith, rules, eq-eqb}
+use Rattle.std.proofs.Common.{◌≡◌, true, false, get_or, arith, rules}
 use Rattle.slab_rows.proofs.Firsts.{first_here, first_more, first_all}
 use Rattle.catalogue.specs.Stations.{at_address, newcomer}
 use Rattle.catalogue.proofs.partners.find.Goals as goal

@@ -1,7 +1,4 @@
-use Rattle.std.proofs.Common.{◌≡◌, sym, ap, ◌∙◌, subst, arith}
-use Rattle.catalogue.specs.Opening.{count_opened}
-use Rattle.catalogue.specs.Judging.{placed}
-use Rattle.catalogue.specs.Kept.{Kept}
+use Rattle.std.proofs.Common.{arith}
 use Rattle.catalogue.specs.Views.{station_of}
 use Rattle.catalogue.proofs.Listed.{listed}
 use Rattle.catalogue.proofs.Keeps.{small, kept_opened}

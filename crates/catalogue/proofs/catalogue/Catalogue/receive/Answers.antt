@@ -1,5 +1,5 @@
 use Rattle.std.proofs.Common.{◌≡◌, Ok, rules}
-use Rattle.packet.specs.Packets.{seen, message_of}
+use Rattle.packet.specs.Packets.{seen}
 use Rattle.catalogue.specs.Receiving.{receiving}
 use Rattle.catalogue.specs.Views.{station_of}
 use Rattle.catalogue.proofs.Promised.{received_by}

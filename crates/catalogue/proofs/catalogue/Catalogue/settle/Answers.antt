@@ -1,6 +1,6 @@
-use Rattle.std.proofs.Common.{◌≡◌, Ok, sym, refl, ap, ◌∙◌, subst, arith}
+use Rattle.std.proofs.Common.{sym, refl, ◌∙◌, subst, arith}
 use Rattle.catalogue.specs.Receiving.{count_answered}
-use Rattle.catalogue.specs.Judging.{known, placed}
+use Rattle.catalogue.specs.Judging.{placed}
 use Rattle.catalogue.specs.Kept.{Kept}
 use Rattle.catalogue.specs.Views.{station_of}
 use Rattle.catalogue.proofs.Listed.{listed}

@@ -1,4 +1,4 @@
-use Rattle.std.proofs.Common.{◌≡◌, sym, refl, ap, ◌∙◌, subst, arith}
+use Rattle.std.proofs.Common.{sym, refl, ◌∙◌, subst, arith}
 use Rattle.catalogue.specs.Withdrawing.{count_withdrawn}
 use Rattle.catalogue.specs.Judging.{placed}
 use Rattle.catalogue.specs.Kept.{Kept}

@@ -1,5 +1,4 @@
-use Rattle.std.proofs.Common.{rules}
-use Rattle.std.proofs.lemmas.Slice.Eq.{slice_eq-Decides, bytes_eq-Decides}
+use Rattle.std.proofs.lemmas.Slice.Eq.{slice_eq-Decides}
 use Rattle.sky.proofs.Lookups.{same_from}
 use Rattle.sky.proofs.star.Star.is_named.Goals as goal
 use Rattle.std.proofs.lemmas.Bool.Decides.{Decides-eqb}
