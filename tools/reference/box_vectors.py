@@ -7,7 +7,7 @@ from typing import Iterator
 
 import lines
 import packet_vectors
-import traffic
+import mischief
 from dice import Dice
 from packets import READ, REQUEST, WRITE, Asked, Message, Put, write
 from values import KINDS
@@ -402,7 +402,7 @@ def grounds() -> Iterator[bytes]:
 
 
 def by_chance() -> Iterator[bytes]:
-    fresh = traffic.lines_without_end(Dice(20261119), "box")
+    fresh = mischief.lines_without_end(Dice(20261119), "box")
     for _ in range(RANDOM_COUNT):
         yield next(fresh)
 

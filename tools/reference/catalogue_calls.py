@@ -1,4 +1,4 @@
-"""The console's calls of a catalogue (docs/PROTOCOL.md, section 7.5)."""
+"""The console's calls of a catalogue, apart from withdrawing (docs/PROTOCOL.md, section 7.5)."""
 
 from __future__ import annotations
 
@@ -87,13 +87,6 @@ def poll(console: Console, words: list[bytes]) -> bytes:
     return printed(b"failed", polled.number)
 
 
-def withdraw(console: Console, words: list[bytes]) -> bytes:
-    """withdraw ADDR PARTNER"""
-    address, partner = exactly(2, words)
-    station = station_at(console, address, Catalogue)
-    return printed(b"withdrawn", station.logic.withdraw(word_of(partner)))
-
-
 def receive(console: Console, words: list[bytes]) -> bytes:
     """receive ADDR SENDER BYTES"""
     address, sender, packet = exactly(3, words)
@@ -132,7 +125,6 @@ CALLS = {
     b"open-read": or_refusal(open_read),
     b"open-write": or_refusal(open_write),
     b"poll": or_refusal(poll),
-    b"withdraw": or_refusal(withdraw),
     b"receive": or_refusal(receive),
     b"counts": counts,
     b"discover": discover,

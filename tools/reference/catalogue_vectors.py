@@ -2,11 +2,11 @@
 
 from __future__ import annotations
 
-from typing import Iterator
+from typing import Iterable, Iterator, Sequence
 
 import lines
 import packet_vectors
-import traffic
+import mischief
 from box_vectors import TEXTS, discovers, handle, look, owner_write, reads, writes
 from catalogue import LATEST_TIME, LONGEST_INTERVAL
 from dice import Dice
@@ -42,10 +42,6 @@ def poll(address: int, time: int, partner: int) -> bytes:
 
 def receive(address: int, sender: int, packet: bytes) -> bytes:
     return b"receive %d %d %s" % (address, sender, lines.encode(packet))
-
-
-def withdraw(address: int, partner: int) -> bytes:
-    return b"withdraw %d %d" % (address, partner)
 
 
 def counts(address: int) -> bytes:
@@ -87,9 +83,11 @@ def partners() -> Iterator[bytes]:
         yield from enlist(1, address)
     for partner in (0, 1, 14, 15, 16, 17, 255, 256, 65536, 4294967295):
         yield poll(1, 0, partner)
-        yield withdraw(1, partner)
         yield open_read(1, 0, partner, partner % 65536)
-        yield withdraw(1, partner)
+        yield poll(1, 0, partner)
+    yield receive(1, 14, b"{1.1:A:0:1:1:Nil:0}")
+    yield receive(1, 16, b"{1.1:A:0:1:1:Nil:0}")
+    yield receive(1, 9, b"{1.1:A:0:1:1:Nil:0}")
     yield counts(1)
     for partner in range(16):
         yield open_write(1, 5, partner, (partner, b"x" * (partner + 1)))
@@ -101,26 +99,30 @@ def partners() -> Iterator[bytes]:
 # ---- opening ----------------------------------------------------------------------------------
 
 
+def given_up(partner: int, orders: Iterable[Sequence[tuple[int, bytes]]]) -> Iterator[bytes]:
+    """Orders to write, each at the deadline of the one before, which is given up then: there is no repeat."""
+    yield from fresh(1, 1000, 8000, 0)
+    for at, order in enumerate(orders):
+        yield open_write(1, 1000 * at, partner, *order)
+        yield poll(1, 1000 * (at + 1), partner)
+    yield counts(1)
+
+
 def openings() -> Iterator[bytes]:
     """Counts of groups, texts, and the packets that go out."""
-    yield from fresh()
-    for length in (0, 1, 2, 3, 9, 10, 11, 12, 30):
-        yield open_read(1, 0, 0, *[65535 - at for at in range(length)])
-        yield withdraw(1, 0)
-        yield open_write(1, 0, 0, *[(at, b"%d" % at) for at in range(length)])
-        yield withdraw(1, 0)
-    for kind in KINDS:
-        for text in TEXTS[kind]:
-            yield open_write(1, 0, 0, (100, text))
-            yield withdraw(1, 0)
-    for text in (b"", b"a" * 40, b"a" * 41, b":", b"{", b"}", b"a:b", b"\xff", b"\xc3\xa9" * 20, b"\xc3\xa9" * 21,
-                 b"\xc3", b"a" * 39 + b"\xc3\xa9", b"=", b"==", b"a=b", b"\\", b" ", b"/"):
-        yield open_write(1, 0, 1, (0, b"x"), (65535, text), (1, b"y"))
-        yield withdraw(1, 1)
-    yield open_write(1, 0, 0, *[(65535, b"a" * 40)] * 10)
-    yield withdraw(1, 0)
-    yield open_write(1, 0, 0, *[(65535, b"a" * 40)] * 9, (65535, b"a" * 41))
-    yield open_read(1, 0, 0, *[100] * 10)
+    lengths = (0, 1, 2, 3, 9, 10, 11, 12, 30)
+    yield from fresh(1, 1000, 8000, 0)
+    for at, length in enumerate(lengths):
+        yield open_read(1, 1000 * at, 0, *[65535 - index for index in range(length)])
+        yield poll(1, 1000 * (at + 1), 0)
+    yield from given_up(0, [[(index, b"%d" % index) for index in range(length)] for length in lengths])
+    yield from given_up(0, [[(100, text)] for kind in KINDS for text in TEXTS[kind]])
+    some = (b"", b"a" * 40, b"a" * 41, b":", b"{", b"}", b"a:b", b"\xff", b"\xc3\xa9" * 20, b"\xc3\xa9" * 21, b"\xc3",
+            b"a" * 39 + b"\xc3\xa9", b"=", b"==", b"a=b", b"\\", b" ", b"/")
+    yield from given_up(1, [[(0, b"x"), (65535, text), (1, b"y")] for text in some])
+    longest = (65535, b"a" * 40)
+    yield from given_up(0, [[longest] * 10, [longest] * 9 + [(65535, b"a" * 41)], [longest] * 11])
+    yield open_read(1, 3000, 0, *[100] * 10)
     yield counts(1)
 
 
@@ -132,12 +134,10 @@ def grounds_of_opening() -> Iterator[bytes]:
         for partner in (0, 1, 2, 4294967295):
             for indices in ((), (100,), (100,) * 11):
                 yield open_read(1, time, partner, *indices)
-                if (time, partner, len(indices)) == (50, 1, 1):
-                    yield withdraw(1, 1)
+            yield receive(1, 8, b"{1.1:A:0:1:0:By:1}")
             for text in (b"", b"a:b", b"ok"):
                 yield open_write(1, time, partner, (100, text))
-                if (time, partner, text) == (50, 1, b"ok"):
-                    yield withdraw(1, 1)
+            yield receive(1, 8, b"{1.1:A:1:2:0}")
     yield counts(1)
     yield poll(1, 50, 0)
 
@@ -170,7 +170,6 @@ def times() -> Iterator[bytes]:
     yield poll(1, 399, 0)
     yield poll(1, 400, 0)
     yield receive(1, 9, b"{1.1:A:0:1:0:By:1}")
-    yield withdraw(1, 1)
     yield poll(1, 399, 0)
     yield poll(1, 400, 0)
     for start in (LATEST_TIME - 1001, LATEST_TIME - 1000, LATEST_TIME - 999, LATEST_TIME):
@@ -232,8 +231,6 @@ def polls_of_several() -> Iterator[bytes]:
             yield poll(1, time, partner)
         yield counts(1)
     yield poll(1, 19999, 0)
-    for partner in (0, 1, 2):
-        yield withdraw(1, partner)
     yield counts(1)
 
 
@@ -264,7 +261,7 @@ def answers() -> Iterator[bytes]:
             yield open_read(1, 0, 0, 100)
             for told in (number - 1, number + 1, number):
                 yield receive(1, 9, b"{1.1:A:%d:1:0:%s:%s}" % (told, kind.encode(), text))
-            yield withdraw(1, 0)
+            yield receive(1, 9, b"{1.1:A:%d:1:1:Nil:0}" % number)
 
 
 def answers_in_order() -> Iterator[bytes]:
@@ -284,9 +281,9 @@ def answers_in_order() -> Iterator[bytes]:
 
 
 def early_and_late_answers() -> Iterator[bytes]:
-    """Answers before anything was asked, after giving up, after withdrawing, and after the next opening."""
+    """Answers before anything was asked, from the wrong box, after giving up, and after the next opening."""
     yield from fresh(1, 1000, 4000, 1)
-    told = [b"{1.1:A:%d:2:0}" % number for number in range(6)]
+    told = [b"{1.1:A:%d:2:0}" % number for number in range(5)]
     yield receive(1, 9, told[0])
     yield open_write(1, 0, 0, (100, b"1"))
     yield receive(1, 8, told[0])
@@ -303,16 +300,11 @@ def early_and_late_answers() -> Iterator[bytes]:
     yield poll(1, 6000, 0)
     yield receive(1, 9, told[2])
     yield open_write(1, 6000, 0, (100, b"4"))
-    yield receive(1, 9, told[2])
-    yield withdraw(1, 0)
-    yield receive(1, 9, told[3])
-    yield withdraw(1, 0)
-    yield open_write(1, 6000, 0, (100, b"5"))
-    yield open_write(1, 6000, 1, (100, b"5"))
-    for number in (3, 5, 0):
+    yield open_write(1, 6000, 1, (100, b"4"))
+    for number in (2, 4, 0):
         for sender in (9, 8):
             yield receive(1, sender, told[number])
-    yield receive(1, 9, told[4])
+    yield receive(1, 9, told[3])
     yield counts(1)
 
 
@@ -370,7 +362,7 @@ def conversations() -> Iterator[bytes]:
     yield from look(8, 101)
     yield poll(1, 6000, 0)
     yield handle(9, 1, writes(2, (101, b"2")))
-    yield withdraw(1, 0)
+    yield receive(1, 9, b"{1.1:A:2:2:0}")
     yield receive(1, 9, b"{1.1:A:2:2:0}")
     yield open_read(1, 6000, 0, 100, 101, 102, 103, 200, 2)
     yield handle(9, 1, reads(3, 100, 101, 102, 103, 200, 2))
@@ -395,9 +387,8 @@ def conversations() -> Iterator[bytes]:
 
 def stations_in_place_of_others() -> Iterator[bytes]:
     """A catalogue in the place of a box and the other way round; calls to the wrong kind of station."""
-    calls = [counts(5), b"discover 5", poll(5, 0, 0), withdraw(5, 0), open_read(5, 0, 0, 1),
-             open_write(5, 0, 0, (1, b"x")), receive(5, 9, b"{1.1:A:0:2:0}"),
-             discovered(5, b"{1.1:A:0:3:0:St:M1:0:By:0}"), *enlist(5, 9),
+    calls = [counts(5), b"discover 5", poll(5, 0, 0), open_read(5, 0, 0, 1), open_write(5, 0, 0, (1, b"x")),
+             receive(5, 9, b"{1.1:A:0:2:0}"), discovered(5, b"{1.1:A:0:3:0:St:M1:0:By:0}"), *enlist(5, 9),
              handle(5, 1, reads(0, 100)), owner_write(5, 100, "By", b"1"), *look(5, 100)]
     yield from calls
     yield b"bare 5 100 199 100:By:0"
@@ -415,7 +406,7 @@ def stations_in_place_of_others() -> Iterator[bytes]:
 
 
 def by_chance() -> Iterator[bytes]:
-    script = traffic.lines_without_end(Dice(20261120), "catalogue")
+    script = mischief.lines_without_end(Dice(20261120), "transactions")
     for _ in range(RANDOM_COUNT):
         yield next(script)
 
@@ -446,13 +437,12 @@ ABOUT_LINES = [
     b"open-write 1 0 0 100\\x3dx",
     b"open-write 1 0 0 100=x =", b"open-write 1 0 0 100=a\\e", b"counts 1",
     b"open-write 1 0 0 100=a=b 101== 102=\\x3d 103=\\x20",
-    b"withdraw 1 0", b"open-write 1 0 0 100=\\x41", b"withdraw 1 0", b"open-write  1  0  0  100=x ", b"withdraw 1 0",
+    b"receive 1 9 {1.1:A:0:2:0:0:0:0}", b"open-write 1 0 0 100=\\x41", b"receive 1 9 {1.1:A:1:2:0}",
+    b"open-write  1  0  0  100=x ", b"receive 1 9 {1.1:A:2:2:0}",
     b"poll", b"poll 1", b"poll 1 0", b"poll 1 0 0 0", b"poll 1 x 0", b"poll 1 0 x", b"poll 1 -0 0",
     b"poll 1 18446744073709551615 0",
     b"poll 1 18446744073709551616 0", b"poll 1 0 4294967295", b"poll 1 0 4294967296", b"poll 123456 0 0",
     b"polls 1 0 0", b"poll 1 0 0",
-    b"withdraw", b"withdraw 1", b"withdraw 1 0 0", b"withdraw 1 x", b"withdraw 1 4294967296", b"withdraw 123456 0",
-    b"withdraw 1 0",
     b"receive", b"receive 1", b"receive 1 9", b"receive 1 9 {} x", b"receive 1 9 \\", b"receive 1 9 \\e",
     b"receive 1 x {}",
     b"receive 1 4294967296 {}", b"receive 123456 9 {}", b"receive 1 {} 9", b"receive 1 9 {1.1:A:0:2:0}",

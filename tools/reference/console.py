@@ -21,7 +21,8 @@ import lines  # noqa: E402
 from words import NotUnderstood  # noqa: E402
 
 # The module that has the calls of each level.
-FAMILIES = {"values": "value_calls", "packets": "packet_calls", "box": "box_calls", "catalogue": "catalogue_calls"}
+FAMILIES = {"values": "value_calls", "packets": "packet_calls", "box": "box_calls",
+            "transactions": "catalogue_calls", "catalogue": "withdraw_calls"}
 
 Call = Callable[["Console", list[bytes]], bytes]
 

@@ -2,9 +2,12 @@
 """Fresh lines for the console, for comparing the program with the reference.
 
     python3 tools/reference/random_lines.py [--level NAME] SEED COUNT
+    python3 tools/reference/random_lines.py [--level NAME] --histories SEED COUNT
 
-prints COUNT lines of a script. The same level, SEED and COUNT give the same lines. The level says which
-calls they have (levels.py).
+The first prints COUNT lines of a script, the second whole histories of honest worlds (traffic.py) that have
+about COUNT lines together: those that check.py checks with the same SEED and COUNT. The same level, SEED and
+COUNT give the same lines. The level says which calls they have (levels.py); histories have all of them unless
+it is given.
 """
 
 from __future__ import annotations
@@ -103,11 +106,11 @@ def about_packets(dice: Dice) -> Iterator[bytes]:
 
 def about_stations(level: str) -> Callable[[Dice], Iterator[bytes]]:
     """Scripts of stations at this level, with packets and values between."""
-    traffic = importlib.import_module("traffic")
+    mischief = importlib.import_module("mischief")
 
     def mixed(dice: Dice) -> Iterator[bytes]:
         others = about_packets(dice)
-        for line in traffic.lines_without_end(dice, level):
+        for line in mischief.lines_without_end(dice, level):
             if dice.once_in(12):
                 yield next(others)
             yield line
@@ -125,11 +128,23 @@ def script(seed: int, count: int, level: Optional[str] = None) -> bytes:
     return b"".join(next(fresh) + b"\n" for _ in range(count))
 
 
+def histories(seed: int, count: int, level: str = "all") -> bytes:
+    """Whole histories, each with its seed in front."""
+    traffic = importlib.import_module("traffic")
+    result = []
+    for each, world in traffic.histories(seed, count, level):
+        result += [b"# history %d" % each] + world.script
+    return b"".join(line + b"\n" for line in result)
+
+
 def main() -> None:
-    level, rest = levels.chosen(sys.argv[1:])
+    whole = "--histories" in sys.argv
+    words = [word for word in sys.argv[1:] if word != "--histories"]
+    level, rest = levels.chosen(words, "all" if whole else levels.DEFAULT)
     if len(rest) != 2:
-        sys.exit("usage: random_lines.py [--level NAME] SEED COUNT")
-    sys.stdout.buffer.write(script(int(rest[0]), int(rest[1]), level))
+        sys.exit("usage: random_lines.py [--level NAME] [--histories] SEED COUNT")
+    make = histories if whole else script
+    sys.stdout.buffer.write(make(int(rest[0]), int(rest[1]), level))
 
 
 if __name__ == "__main__":

@@ -29,7 +29,7 @@ class Element(NamedTuple):
 
 
 class Store:
-    """A store, by three questions that each kind of store answers for itself; the rest follows from them."""
+    """A store, by three questions and a write that each kind of store has for itself; the rest follows from them."""
 
     def limits(self) -> tuple[int, int]:
         """The lowest and the highest index."""
@@ -37,6 +37,10 @@ class Store:
 
     def element(self, index: int) -> Optional[Element]:
         """The element at an index, or None."""
+        raise NotImplementedError
+
+    def indices(self) -> Sequence[int]:
+        """The indices of all elements, in order."""
         raise NotImplementedError
 
     def replace(self, index: int, value: Value) -> None:
@@ -111,6 +115,9 @@ class Shelf(Store):
     def element(self, index: int) -> Optional[Element]:
         return self.elements.get(index)
 
+    def indices(self) -> Sequence[int]:
+        return list(self.elements)
+
     def replace(self, index: int, value: Value) -> None:
         self.elements[index] = self.elements[index]._replace(value=value)
 
@@ -128,6 +135,9 @@ class HouseRecord(Store):
 
     def element(self, index: int) -> Optional[Element]:
         return self.elements[index] if index < len(self.elements) else None
+
+    def indices(self) -> Sequence[int]:
+        return range(len(self.elements))
 
 
 class Star(NamedTuple):
@@ -158,6 +168,10 @@ class StarRows(Store):
         content = self.stars[row][column]
         return Element(Value("St" if column == 0 else "In", content), fixed=True)
 
+    def indices(self) -> Sequence[int]:
+        low, high = self.limits()
+        return range(low, high + 1)
+
 
 def check_star(star: Star) -> None:
     """Refuses by 13 a name that is no St, and an angle outside its range."""
@@ -185,6 +199,9 @@ class Joined(Store):
         part = self.part(index)
         return None if part is None else part.element(index)
 
+    def indices(self) -> Sequence[int]:
+        return [*self.lower.indices(), *self.upper.indices()]
+
     def replace(self, index: int, value: Value) -> None:
         self.part(index).replace(index, value)
 
@@ -195,6 +212,11 @@ def joined(stores: Iterable[Store]) -> Store:
     for store in others:
         first = Joined(first, store)
     return first
+
+
+def contents(store: Store) -> dict[int, Element]:
+    """All elements of a store, each at its index."""
+    return {index: store.element(index) for index in store.indices()}
 
 
 def write_text(store: Store, index: int, text: bytes) -> int:

@@ -75,9 +75,14 @@ class Levels(unittest.TestCase):
         self.assertEqual(console.run(line, "values"), b"error\n")
         self.assertEqual(console.run(line, "packets"), b"request 1.1 7 read 100\n")
         self.assertEqual(console.run(b"value By 7", "packets"), b"value 7\n")
+        made = b"catalogue 1 1000 1000 0\nenlist 1 9\nwithdraw 1 0"
+        self.assertEqual(console.run(made, "transactions"), b"made\npartner 0\nerror\n")
+        self.assertEqual(console.run(made, "catalogue"), b"made\npartner 0\nrefused 16\n")
 
     def test_names(self):
         self.assertEqual(levels.named("all"), "catalogue")
+        self.assertTrue(levels.knows("catalogue", "transactions"))
+        self.assertFalse(levels.knows("transactions", "catalogue"))
         self.assertEqual(levels.up_to("box"), ("values", "packets", "box"))
         self.assertEqual(levels.chosen(["7", "--level", "box", "9"]), ("box", ["7", "9"]))
         self.assertRaises(SystemExit, levels.named, "boxes")

@@ -9,7 +9,8 @@ sys.path.insert(0, str(Path(__file__).resolve().parent))
 
 from dice import Dice  # noqa: E402
 from refusals import Refused  # noqa: E402
-from stores import (HouseRecord, Item, Joined, Shelf, Star, StarRows, joined, owner_write, write_text)  # noqa: E402
+from stores import (HouseRecord, Item, Joined, Shelf, Star, StarRows, contents, joined, owner_write,  # noqa: E402
+                    write_text)
 from values import KINDS, Value, read, spell  # noqa: E402
 
 VEGA = Star(b"Vega", 1005324000, 139621000)
@@ -120,7 +121,7 @@ class Writing(unittest.TestCase):
         self.assertEqual(shown(store, 101), (0, "Si", b"7"))
 
 
-def contents(store, indices):
+def elements_at(store, indices):
     return {index: store.element(index) for index in indices}
 
 
@@ -138,9 +139,9 @@ class Always(unittest.TestCase):
                 index = dice.between(180, 270) if dice.once_in(2) else dice.below(120)
                 kind = dice.pick(KINDS) if dice.once_in(2) else store.kind_at(index) or "By"
                 value = read(kind, dice.pick((b"True", b"1", b"2", b"x", b"0.5"))) or Value("By", 3)
-                before = contents(store, range(300))
+                before = elements_at(store, range(300))
                 code = store.write(index, value)
-                after = contents(store, range(300))
+                after = elements_at(store, range(300))
                 changed = [at for at in before if before[at] != after[at]]
                 self.assertLessEqual(set(changed), {index} if code == 0 else set())
                 if code == 0:
@@ -149,6 +150,16 @@ class Always(unittest.TestCase):
                     self.assertEqual(after[index].fixed, False)
                     self.assertEqual(before[index].value.kind, value.kind)
         self.assertGreater(done, 50)
+
+
+class Contents(unittest.TestCase):
+    def test_all_elements_and_no_others(self):
+        shelf = Shelf(200, 299, [Item(250, "By", b"7", fixed=True)])
+        store = joined([HouseRecord(b"S", b"M"), StarRows([VEGA]), shelf])
+        held = contents(store)
+        self.assertEqual(list(held), [0, 1, 2, 3, 100, 101, 102, 250])
+        for index in range(0, 400):
+            self.assertEqual(held.get(index), store.element(index))
 
 
 if __name__ == "__main__":

@@ -49,6 +49,12 @@ class Sample(unittest.TestCase):
         self.assertNotIn(b"made", box)
         self.assertNotIn(b"reply", box)
 
+    def test_only_the_last_level_withdraws(self):
+        self.assertNotIn(b"withdraw", vectors.script("transactions"))
+        kinds = kinds_of(console.run(vectors.script("transactions"), "transactions"))
+        for kind in (b"sent", b"again", b"failed", b"answered", b"refused 13", b"refused 15"):
+            self.assertGreaterEqual(kinds[kind], 10, kind)
+
 
 class Exhausted(unittest.TestCase):
     def test_the_end_of_the_numbers(self):
@@ -57,6 +63,12 @@ class Exhausted(unittest.TestCase):
         self.assertEqual((kinds[b"withdrawn"], kinds[b"answered"], kinds[b"again"]), (65535, 1, 1))
         self.assertEqual((kinds[b"sent"], kinds[b"refused 17"], kinds[b"refused 15"]), (65537, 2, 1))
         self.assertEqual((kinds[b"refused 13"], kinds[b"refused 1"], kinds[b"error"]), (3, 1, 0))
+
+    def test_the_end_of_the_numbers_without_withdrawing(self):
+        script = b"".join(line + b"\n" for line in exhausted.script_lines("transactions"))
+        kinds = kinds_of(console.run(script, "transactions"))
+        self.assertEqual((kinds[b"answered"], kinds[b"sent"], kinds[b"refused 17"]), (65536, 65537, 2))
+        self.assertEqual((kinds[b"refused 12"], kinds[b"error"]), (1, 0))
 
 
 if __name__ == "__main__":

@@ -1,42 +1,44 @@
-"""Whole scripts of stations, by chance: what one station gives is handed to another, late, twice or never.
+"""Worlds of stations, by chance: what one station gives is handed to another, late, twice or never.
 
 A world has boxes and catalogues, packets in the air, and dice that say what happens next. Each line is
 answered by the reference at once, because the packets that stations give are needed later on; nothing here
 says what the right answer is.
 
-A world is *honest* if the air only loses, delays and repeats packets, each station is made once, and every
-packet comes from where the transport says. `check.py` looks at such worlds. In the others, packets are also
-damaged, forged and sent to the wrong place, stations are made again, and lines are spoiled.
+These worlds are *honest*: the air only loses, delays and repeats packets, each station is made once, and
+every packet comes from where the transport says. `histories.py` keeps what they do, call by call. The rough
+worlds of `mischief.py` are built on them.
 """
 
 from __future__ import annotations
 
 from typing import Callable, Iterator, NamedTuple, Optional
 
+import levels
 import lines
 import packet_texts
 import packets
 import texts
 import values
 from box import Box
-from catalogue import LATEST_TIME, Catalogue
+from catalogue import LATEST_TIME, LONGEST_INTERVAL, Catalogue
 from console import Console
 from dice import Dice
-from packets import ANSWER, DISCOVERY, REQUEST, WRITE, Message
+from memory import ROWS
+from packets import DISCOVERY
 from refusals import Refused
 from stores import HouseRecord, Joined, Shelf, StarRows, Store
 from texts import word_for
 from values import KINDS
 
-ADDRESSES = (0, 1, 2, 3, 4, 5, 6, 7, 8, 9, 10, 77, 255, 256, 8384, 65535, 65536, 4294967294, 4294967295)
-STRANGERS = tuple(range(500, 520))
+ADDRESSES = tuple(range(0, 16)) + (77, 255, 256, 8384, 65535, 65536, 2147483648, 4294967294, 4294967295)
+
+# How many packets are in the air at most, and how many are held back to come much later.
 MOST_IN_THE_AIR = 40
+MOST_HELD = 24
 
-# How many lines a world has: least and greatest.
-LENGTHS = (60, 500)
-
-BAD_NUMBERS = (b"-1", b"-0", b"00", b"01", b"+1", b"1.0", b"", b"x", b"65536", b"4294967296", b"18446744073709551616",
-               b"\\x31", b"\\e", b"/", b"=", b":", b"9" * 30)
+# How many lines an honest world has, least and greatest, and one with a crowd of catalogues.
+LENGTHS = (200, 900)
+LENGTHS_OF_CROWDS = (600, 1200)
 
 
 class Flight(NamedTuple):
@@ -72,37 +74,52 @@ def is_changeable(store: Store, index: int) -> bool:
     return element is not None and not element.fixed
 
 
-def is_readable(packet: bytes) -> bool:
+def is_discovery(packet: bytes) -> bool:
+    """Whether this is a well-formed packet with command 3."""
     try:
-        packets.read(packet)
+        return packets.read(packet).command == DISCOVERY
     except Refused:
         return False
-    return True
 
 
 class World:
     """Stations, packets in the air, and the lines that have been said so far."""
 
-    def __init__(self, dice: Dice, console: Console, level: str, honest: bool = False) -> None:
+    def __init__(self, dice: Dice, console: Console, level: str) -> None:
         self.dice = dice
         self.console = console
-        self.honest = honest
+        self.may_withdraw = levels.knows(level, "catalogue")
         self.script: list[bytes] = []
         self.answers: list[bytes] = []
         self.air: list[Flight] = []
-        free = list(ADDRESSES)
-        some = [free.pop(dice.below(len(free))) for _ in range(7)]
-        self.strangers = STRANGERS[: dice.pick((0 if level == "catalogue" else 2, 1, 2, 3, 15, 20))]
-        self.boxes = some[: dice.between(1, 3) if len(self.strangers) < 15 else 1]
-        self.catalogues = some[3 : 3 + dice.between(1, 3)] if level == "catalogue" else []
-        self.unused = some[6]
+        self.held: list[Flight] = []
+        self.boxes, self.catalogues, self.others = self.people()
         for address in self.boxes:
             self.make_box(address)
         for address in self.catalogues:
             self.make_catalogue(address)
-            for box in self.boxes:
-                if not dice.once_in(8):
-                    self.say(b"enlist", address, box)
+        for address in self.catalogues:
+            self.enlist_some(address)
+            if self.dice.once_in(2):
+                self.discover_all(address)
+
+    def people(self) -> tuple[list[int], list[int], list[int]]:
+        """The addresses of boxes, of catalogues, and some others without a station. At times there are more
+        catalogues than a box has records, or more addresses than a catalogue takes."""
+        dice = self.dice
+        boxes, catalogues, others = dice.between(1, 3), dice.between(1, 3), dice.between(0, 2)
+        style = dice.below(7)
+        if style == 0:
+            boxes, catalogues = 1, dice.between(ROWS + 2, ROWS + 5)
+        elif style == 1:
+            others = dice.between(ROWS - 4, ROWS)
+        free = list(ADDRESSES)
+        some = [free.pop(dice.below(len(free))) for _ in range(boxes + catalogues + others)]
+        return some[:boxes], some[boxes : boxes + catalogues], some[boxes + catalogues :]
+
+    def is_crowd(self) -> bool:
+        """Whether there are more catalogues than a box has records."""
+        return len(self.catalogues) > ROWS
 
     # ---- saying a line ------------------------------------------------------------------------
 
@@ -127,11 +144,17 @@ class World:
         return None
 
     def fly(self, sender: int, to: int, packet: Optional[bytes]) -> None:
-        """Puts a packet in the air. If there are too many, one is lost."""
-        if packet is not None:
-            self.air.append(Flight(sender, to, packet))
-            if len(self.air) > MOST_IN_THE_AIR:
-                self.air.pop(self.dice.below(len(self.air)))
+        """Puts a packet in the air, and at times holds a copy back, most often of a request. Where there are too
+        many, one is lost."""
+        if packet is None:
+            return
+        self.air.append(Flight(sender, to, packet))
+        if len(self.air) > MOST_IN_THE_AIR:
+            self.air.pop(self.dice.below(len(self.air)))
+        if self.dice.once_in(4 if to in self.boxes else 12):
+            self.held.append(Flight(sender, to, packet))
+            if len(self.held) > MOST_HELD:
+                self.held.pop(self.dice.below(len(self.held)))
 
     # ---- making stations ----------------------------------------------------------------------
 
@@ -172,9 +195,18 @@ class World:
         self.say(*self.box_words(address))
 
     def make_catalogue(self, address: int) -> None:
-        first = self.dice.pick((1000, 1000, 1001, 3000, 60000, self.dice.between(1000, 60000)))
-        longest = min(600000, first * self.dice.pick((1, 2, 2, 4, 8, 16)) + self.dice.pick((0, 0, 0, 1, 500)))
-        self.say(b"catalogue", address, first, longest, self.dice.pick((0, 1, 2, 3, 10, 20, 20)))
+        first = self.dice.pick((1000, 1000, 1001, 3000, 37500, 60000, self.dice.between(1000, 60000)))
+        longest = first * self.dice.pick((1, 2, 2, 4, 8, 16, 512)) + self.dice.pick((-1, 0, 0, 0, 1, 500))
+        repeats = self.dice.pick((0, 1, 2, 3, 9, 20, 20))
+        self.say(b"catalogue", address, first, max(first, min(LONGEST_INTERVAL, longest)), repeats)
+
+    def enlist_some(self, address: int) -> None:
+        """Enlists most of the boxes, the others, and now and then a catalogue, itself perhaps, or a box again."""
+        some = [box for box in self.boxes if self.is_crowd() or not self.dice.once_in(8)] + self.others
+        some += [self.dice.pick(self.catalogues)] if self.dice.once_in(8) else []
+        some += [self.dice.pick(self.boxes)] if self.dice.once_in(4) else []
+        while some:
+            self.say(b"enlist", address, some.pop(self.dice.below(len(some))))
 
     # ---- what to ask for ----------------------------------------------------------------------
 
@@ -205,18 +237,23 @@ class World:
     # ---- boxes --------------------------------------------------------------------------------
 
     def look_around(self, address: int) -> None:
-        """Looks at the elements of a box that can change: at all of them in an honest world."""
+        """Looks at some of the elements of a box that can change."""
         store = self.store_at(address)
-        if store is None:
-            return
-        for index in changeable(store):
-            if self.honest or self.dice.once_in(6):
+        for index in changeable(store) if store is not None else ():
+            if self.dice.once_in(4):
+                self.say(b"look", address, index)
+
+    def look_everywhere(self) -> None:
+        """Looks at all indices that matter, at each box."""
+        for address in self.boxes:
+            store = self.store_at(address)
+            for index in dict.fromkeys(spots(store)) if store is not None else ():
                 self.say(b"look", address, index)
 
     def hand_to_box(self, flight: Flight) -> None:
         answer = self.say(b"handle", flight.to, flight.sender, word_for(self.dice, flight.packet))
         self.fly(flight.to, flight.sender, self.packet_in(answer))
-        if self.honest or self.dice.once_in(3):
+        if self.dice.once_in(2):
             self.look_around(flight.to)
 
     def look(self) -> None:
@@ -233,36 +270,6 @@ class World:
         text = self.some_text(store, index) if not self.dice.once_in(6) else texts.some_for(self.dice, kind)
         self.say(b"owner-write", address, index, kind, word_for(self.dice, text))
         self.look_around(address)
-
-    def some_number(self, box: Optional[Box], sender: int) -> int:
-        """A number near the newest that the box has from the sender."""
-        if box is None or self.dice.once_in(60):
-            return self.dice.pick((0, 1, 65534, 65535, self.dice.below(65536)))
-        row = box.record_of(sender)
-        newest = self.dice.pick((0, 0, 5)) - 1 if row is None else box.records[row].newest
-        return max(0, min(65535, newest + self.dice.pick((-2, -1, -1, 0, 0, 0, 1, 1, 1, 1, 1, 1, 2, 9))))
-
-    def some_request(self, to: int, sender: int) -> bytes:
-        """A request that a sender could have made of its own."""
-        number = self.some_number(self.logic_at(to, Box), sender)
-        store = self.store_at(to)
-        version = b"1.1" if self.dice.once_in(3) else b"1.0"
-        if self.dice.once_in(12):
-            return packets.write(packets.read(packets.discovery_request())._replace(number=number))
-        command = self.dice.pick((packets.READ, WRITE, WRITE))
-        groups = []
-        for _ in range(self.some_count()):
-            index = self.some_index(store)
-            put = command == WRITE
-            groups.append(packets.Put(index, self.some_text(store, index)) if put else packets.Asked(index))
-        return packets.write(Message(version, REQUEST, number, command, tuple(groups)))
-
-    def stranger_asks(self) -> None:
-        """A request from a sender that is no station of this world."""
-        if not self.strangers:
-            return
-        to, sender = self.dice.pick(self.boxes), self.dice.pick(self.strangers)
-        self.hand_to_box(Flight(sender, to, self.some_request(to, sender)))
 
     # ---- catalogues ---------------------------------------------------------------------------
 
@@ -292,8 +299,11 @@ class World:
             say(address, catalogue)
 
     def free_partner(self, catalogue: Catalogue) -> int:
-        """A partner where nothing waits, if there is one."""
+        """A partner where nothing waits, if there is one; most often a box."""
         free = [at for at, partner in enumerate(catalogue.partners) if partner.waiting is None]
+        boxes = [at for at in free if catalogue.partners[at].address in self.boxes]
+        if boxes and not self.dice.once_in(4):
+            return self.dice.pick(boxes)
         return self.dice.pick(free) if free else self.some_partner(catalogue)
 
     def open_one(self, address: int, catalogue: Catalogue) -> None:
@@ -315,31 +325,44 @@ class World:
         text = self.dice.pick((b"", b"a" * 41, b"a:b", b"{", b"\xff")) if bad else self.some_text(store, index)
         return b"%d=%s" % (index, word_for(self.dice, text))
 
-    def poll_one(self, address: int, catalogue: Catalogue) -> None:
-        partner = self.some_partner(catalogue)
-        answer = self.say(b"poll", address, self.some_time(catalogue, partner), partner)
+    def poll_at(self, address: int, catalogue: Catalogue, time: int, partner: int) -> None:
+        answer = self.say(b"poll", address, time, partner)
         if partner < len(catalogue.partners):
             self.fly(address, catalogue.partners[partner].address, self.packet_in(answer))
+
+    def poll_one(self, address: int, catalogue: Catalogue) -> None:
+        partner = self.some_partner(catalogue)
+        self.poll_at(address, catalogue, self.some_time(catalogue, partner), partner)
+
+    def wait_out(self, address: int, catalogue: Catalogue) -> None:
+        """Polls a partner at its deadlines, and just before them, until it is given up or the dice say so."""
+        busy = [at for at, partner in enumerate(catalogue.partners) if partner.waiting is not None]
+        partner = self.dice.pick(busy) if busy else self.some_partner(catalogue)
+        while busy and catalogue.partners[partner].waiting is not None and not self.dice.once_in(20):
+            early = 1 if self.dice.once_in(3) else 0
+            time = max(catalogue.clock or 0, catalogue.partners[partner].waiting.deadline - early)
+            self.poll_at(address, catalogue, time, partner)
 
     def withdraw_one(self, address: int, catalogue: Catalogue) -> None:
         self.say(b"withdraw", address, self.some_partner(catalogue))
 
     def enlist_one(self, address: int, _: Catalogue) -> None:
-        self.say(b"enlist", address, self.dice.pick(tuple(self.boxes) + ADDRESSES))
+        self.say(b"enlist", address, self.dice.pick(self.boxes if self.dice.once_in(2) else ADDRESSES))
 
     def count_up(self, address: int, _: Catalogue) -> None:
         self.say(b"counts", address)
 
-    def discover_all(self, address: int, _: Catalogue) -> None:
+    def discover_all(self, address: int, _: Optional[Catalogue] = None) -> None:
+        """A Discovery request to all boxes and to some catalogue, itself perhaps; some are lost at once."""
         packet = self.packet_in(self.say(b"discover", address))
-        for box in self.boxes:
+        for to in self.boxes + [self.dice.pick(self.catalogues)]:
             if not self.dice.once_in(3):
-                self.fly(address, box, packet)
+                self.fly(address, to, packet)
 
     def hand_to_catalogue(self, flight: Flight) -> None:
+        """A packet is received; one about Discovery is often read as such."""
         word = word_for(self.dice, flight.packet)
-        found = b":3:" in flight.packet[:14] and not self.dice.once_in(4)
-        if found or self.dice.once_in(40):
+        if (is_discovery(flight.packet) and self.dice.once_in(2)) or self.dice.once_in(40):
             self.say(b"discovered", flight.to, word)
         else:
             self.say(b"receive", flight.to, flight.sender, word)
@@ -367,161 +390,53 @@ class World:
         if flight is not None:
             self.hand_over(flight)
 
+    def deliver_held(self) -> None:
+        """A copy that was held back, perhaps for long. It may come again."""
+        if self.held:
+            self.hand_over(self.dice.pick(self.held))
+
     def lose(self) -> None:
         if self.air:
             self.air.pop(self.dice.below(len(self.air)))
 
-    def deliver_rubbish(self) -> None:
-        """A packet that is so damaged that it cannot be read."""
-        flight = self.take_from_air()
-        if flight is not None:
-            packet = packet_texts.damaged_packet(self.dice, flight.packet)
-            if not is_readable(packet):
-                self.hand_over(flight._replace(packet=packet))
-
-    # ---- mischief, in worlds that are not honest ------------------------------------------------
-
-    def deliver_damaged(self) -> None:
-        """A packet with a change in its bytes or in its fields."""
-        flight = self.take_from_air()
-        if flight is None:
-            return
-        fields = flight.packet[1:-1].split(b":")
-        if self.dice.once_in(3):
-            packet = packet_texts.damaged_packet(self.dice, flight.packet)
-        else:
-            packet = packet_texts.framed(packet_texts.damaged_fields(self.dice, fields))
-        self.hand_over(flight._replace(packet=packet))
-
-    def deliver_changed(self) -> None:
-        """A packet whose number, version or command is another, but which is still well formed."""
-        flight = self.take_from_air()
-        if flight is None:
-            return
-        message = packets.read(flight.packet)
-        step = self.dice.pick((-2, -1, 0, 1, 1, 2))
-        message = message._replace(number=max(0, min(65535, message.number + step)))
-        if message.command != DISCOVERY:
-            message = message._replace(version=self.dice.pick(packets.VERSIONS))
-        self.hand_over(flight._replace(packet=packets.write(message)))
-
-    def deliver_astray(self) -> None:
-        """A packet that comes to the wrong station, or from the wrong sender."""
-        flight = self.take_from_air()
-        if flight is None:
-            return
-        everyone = tuple(self.boxes) + tuple(self.catalogues) + ADDRESSES[:4]
-        if self.dice.once_in(2):
-            self.hand_over(flight._replace(to=self.dice.pick(everyone)))
-        else:
-            self.hand_over(flight._replace(sender=self.dice.pick(everyone)))
-
-    def deliver_any(self) -> None:
-        """Any packet from anyone."""
-        to = self.dice.pick(tuple(self.boxes) + tuple(self.catalogues))
-        self.hand_over(Flight(self.dice.pick(ADDRESSES), to, packet_texts.some_packet(self.dice)))
-
-    def forge_answer(self) -> None:
-        """An answer that no box gave, near to what a catalogue waits for."""
-        if not self.catalogues:
-            return
-        address = self.dice.pick(self.catalogues)
-        catalogue = self.logic_at(address, Catalogue)
-        waiting = [partner for partner in catalogue.partners if partner.waiting] if catalogue else []
-        if not waiting:
-            return
-        partner = self.dice.pick(waiting)
-        command = self.dice.pick((partner.waiting.command, partner.waiting.command, 1, 2))
-        count = max(1, min(10, partner.waiting.count + self.dice.pick((0, 0, 0, -1, 1))))
-        number = max(0, partner.waiting.number + self.dice.pick((0, 0, 0, -1, 1)))
-        fields = [self.dice.pick(packets.VERSIONS), ANSWER, b"%d" % min(65535, number), b"%d" % command]
-        for _ in range(count):
-            fields += packet_texts.some_group(self.dice, ANSWER, command)
-        self.hand_to_catalogue(Flight(partner.address, address, packet_texts.framed(fields)))
-
-    def spoil_line(self) -> None:
-        """A line that was said before, with one word changed, dropped, doubled or added."""
-        words = lines.words_of(self.dice.pick(self.script[-40:]))
-        if not words:
-            return
-        at = self.dice.below(len(words))
-        style = self.dice.below(6)
-        if style == 0:
-            words = words[:at] + words[at + 1 :]
-        elif style == 1:
-            words = words[:at] + [words[at]] + words[at:]
-        elif style == 2:
-            words = words + [self.dice.pick((b"x", b"0", b"\\e", b"100:By:0", b"/"))]
-        elif style == 3:
-            words[at] = self.dice.pick(BAD_NUMBERS) or b"\\"
-        elif style == 4:
-            words[at] = words[at] + self.dice.pick((b":", b"=", b"\\", b"0", b":fixed", b"\\x20", b"\t", b"\xff"))
-        else:
-            other = self.dice.below(len(words))
-            words[at], words[other] = words[other], words[at]
-        self.say(*words)
-
-    def make_again(self) -> None:
-        """Another station at an address that has one, or a making that is refused."""
-        address = self.dice.pick(tuple(self.boxes) + tuple(self.catalogues) + (self.unused,))
-        if self.catalogues and self.dice.once_in(2):
-            self.make_catalogue(address)
-            return
-        words = self.box_words(address)
-        at = self.dice.below(len(words))
-        if at > 1 and not self.dice.once_in(4):
-            words[at] = self.dice.pick((words[-1], b"0", b"65535", b"\\e", b"100:By:256", b"a:1296000000:0", b"a:0:0"))
-        self.say(*words)
-
-    def call_nobody(self) -> None:
-        """A call to an address without a station, or with one of the other kind."""
-        address = self.dice.pick((self.unused,) + tuple(self.boxes) + tuple(self.catalogues))
-        packet = lines.encode(packets.discovery_request())
-        calls = [(b"look", address, 0), (b"handle", address, 1, packet), (b"owner-write", address, 100, b"By", 1),
-                 (b"counts", address), (b"discover", address), (b"poll", address, 0, 0), (b"withdraw", address, 0),
-                 (b"discovered", address, packet), (b"receive", address, 1, packet), (b"enlist", address, 1),
-                 (b"open-read", address, 0, 0, 100), (b"open-write", address, 0, 0, b"100=1")]
-        self.say(*self.dice.pick(calls))
-
     # ---- what happens next ----------------------------------------------------------------------
+
+    def plan_of_catalogues(self) -> list[Callable[[], None]]:
+        """What may happen at catalogues, each as often as it is likely."""
+        often = {self.open_one: 36, self.poll_one: 20, self.wait_out: 2, self.count_up: 4, self.discover_all: 3,
+                 self.enlist_one: 1, self.withdraw_one: 6 if self.may_withdraw else 0}
+        return [lambda call=call: self.at_a_catalogue(call) for call, count in often.items() for _ in range(count)]
 
     def plan(self) -> list[Callable[[], None]]:
         """What may happen, each as often as it is likely."""
-        at = self.at_a_catalogue
-        with_boxes = [self.deliver] * 20 + [self.lose, self.look, self.owner_write, self.deliver_rubbish]
-        with_boxes += [self.stranger_asks] * (14 if not self.catalogues else 8 if len(self.strangers) > 3 else 2)
-        with_catalogues = [lambda: at(self.open_one)] * 9 + [lambda: at(self.poll_one)] * 6
-        with_catalogues += [lambda: at(self.withdraw_one), lambda: at(self.count_up), lambda: at(self.discover_all)]
-        mischief = [self.deliver_damaged, self.deliver_changed, self.deliver_astray, self.deliver_any,
-                    self.forge_answer, self.forge_answer]
-        rare = [self.spoil_line, self.make_again, self.call_nobody]
-        rare += [lambda: at(self.enlist_one)] if self.catalogues else []
-        plan = with_boxes * 4 + (with_catalogues * 4 if self.catalogues else [])
-        if self.honest:
-            return plan + ([lambda: at(self.enlist_one)] if self.catalogues else [])
-        return plan + mischief * 2 + rare
+        often = {self.deliver: 80, self.deliver_held: 14, self.lose: 4, self.look: 2, self.owner_write: 8}
+        return [call for call, count in often.items() for _ in range(count)] + self.plan_of_catalogues()
 
     def live(self, count: int) -> None:
-        """Goes on until there are this many lines."""
+        """Goes on until there are this many lines; then the counts are told and the boxes looked at."""
         plan = self.plan()
         while len(self.script) < count:
             self.dice.pick(plan)()
         for address in self.catalogues:
             self.say(b"counts", address)
+        self.look_everywhere()
 
 
-def lines_without_end(dice: Dice, level: str) -> Iterator[bytes]:
-    """The lines of one world after the other, all for one run of the console."""
-    console = Console(level)
-    while True:
-        world = World(dice, console, level)
-        world.live(dice.between(*LENGTHS))
-        yield from world.script
-
-
-def history(seed: int, level: str = "catalogue") -> World:
-    """An honest world that has lived."""
+def history(seed: int, level: str = "all", start: Callable[[str], Console] = Console) -> World:
+    """An honest world that has lived, in a new run of the console."""
+    named = levels.named(level)
+    if not levels.knows(named, "transactions"):
+        raise SystemExit(f"there are no histories at the level {named}: they need catalogues")
     dice = Dice(seed)
-    world = World(dice, Console(level), level, honest=True)
-    world.live(dice.between(200, 900))
+    world = World(dice, start(named), named)
+    world.live(dice.between(*LENGTHS_OF_CROWDS if world.is_crowd() else LENGTHS))
     return world
+
+
+def histories(seed: int, count: int, level: str = "all",
+              start: Callable[[str], Console] = Console) -> Iterator[tuple[int, World]]:
+    """Honest worlds with their seeds, from this seed on, until they have so many lines together."""
+    while count > 0:
+        world = history(seed, level, start)
+        yield seed, world
+        seed, count = seed + 1, count - len(world.script)

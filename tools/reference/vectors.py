@@ -26,7 +26,7 @@ FOLDER = ROOT / "crates" / "console"
 
 # The module that has the lines of each level.
 FAMILIES = {"values": "value_vectors", "packets": "packet_vectors", "box": "box_vectors",
-            "catalogue": "catalogue_vectors"}
+            "transactions": "catalogue_vectors", "catalogue": "withdraw_vectors"}
 
 TITLE = b"# Written by tools/reference/vectors.py: change that program, not this file."
 LAST = b"value Do 1E-5"
