@@ -37,7 +37,7 @@ class Event(NamedTuple):
 
 
 class History(NamedTuple):
-    """The calls of one honest world, and the seed that makes it."""
+    """The calls of one honest world, and the number that it grows from."""
 
     seed: int
     events: list[Event]
