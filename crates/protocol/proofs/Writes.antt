@@ -1,16 +1,12 @@
 -- Writing into a row.
-use Rattle.std.proofs.Common.{◌≡◌, ℕ, ◌+◌, ◌-◌, ◌/◌, ◌%◌, ◌^◌, ◌<◌, ◌≤◌, List, [], ◌∷◌, ◌++◌, length, take, drop, set, decimal, sym, ap, ◌∙◌, append_assoc, add-one, arith, length-append, length-drop}
+use Rattle.std.proofs.Common.{◌≡◌, ℕ, ◌+◌, ◌-◌, ◌≤◌, List, ◌++◌, length, take, drop, sym, ap, ◌∙◌, append_assoc, arith, length-append, length-drop}
 use borrow.Rule.Slice.PartMut.{put_mid}
-use Rattle.std.proofs.lemmas.Fmt.{decimal_digit, decimal_step}
-use Rattle.std.proofs.lemmas.List.{drop-drop, length-take-le, set_split, take_at, drop_at, length_push}
+use Rattle.std.proofs.lemmas.List.{drop-drop, length-take-le, take_at, drop_at}
 use Rattle.protocol.specs.Rows.{put_at}
 
 -- a write through `row[at..end]`, as the checker reads it
 pub put_middle : (xs ys : List ℕ) (at : ℕ) → put_mid at (at + length ys - at) xs ys ≡ put_at xs at ys
 put_middle xs ys at = let e : at + length ys - at ≡ length ys = omega arith in rw (e, drop-drop (length ys) at xs)
-
-pub put_one : (xs : List ℕ) (at b : ℕ) → at < length xs → set xs at b ≡ put_at xs at (b ∷ [])
-put_one xs at b h = set_split xs at b h ∙ ap (λ n. take at xs ++ b ∷ drop n xs) (sym (add-one at))
 
 pub length_put : (xs : List ℕ) (at : ℕ) (ys : List ℕ) → at + length ys ≤ length xs → length (put_at xs at ys) ≡ length xs
 length_put xs at ys h =
@@ -32,12 +28,6 @@ put_put xs at m ys zs e h =
     let three : drop (length zs) back ≡ drop (at + length (ys ++ zs)) xs =
     drop-drop (length zs) (at + length ys) xs ∙ ap (λ n. drop n xs) (simp length-append (omega arith)) in
     rw (one, two, three) (simp append_assoc)
-
-pub small_digit : (n : ℕ) → n < 10 → decimal n ≡ (48 + n % 10) ∷ []
-small_digit n h = let e : n % 10 ≡ n = omega arith in decimal_digit n h ∙ ap (λ d. (48 + d) ∷ []) (sym e)
-
-pub decimal_longer : (n : ℕ) → 10 ≤ n → n < 2 ^ 64 → length (decimal n) ≡ length (decimal (n / 10)) + 1
-decimal_longer n h f = ap length (decimal_step n h f) ∙ length_push (decimal (n / 10)) (48 + n % 10)
 
 -- what stands up to the end of a write
 pub take_put : (xs : List ℕ) (at : ℕ) (ys : List ℕ) → at ≤ length xs → take (at + length ys) (put_at xs at ys) ≡ take at xs ++ ys

@@ -4,7 +4,8 @@
 --     code_number c, code_numbered n  the number of an answer code, and back
 --     refusal_number r                the number of a ground for turning a call down
 --     refusal_field r                 the first field at fault, of the three grounds that have one
-use Rattle.std.specs.Prelude.{ℕ, cond, List, Some, None, codes, Option, ◌==◌}
+--     refusal_line r                  how a ground is written: `refused`, its number, and the field at fault
+use Rattle.std.specs.Prelude.{ℕ, cond, List, [], ◌++◌, Some, None, codes, Option, ◌==◌, decimal}
 use Rattle.std.specs.Str.{bytes_eq}
 use Rattle.protocol.specs.declared.kind.Kind.{Kind}
 use Rattle.protocol.specs.declared.kind.Kind.TheVariants as K
@@ -92,3 +93,14 @@ refusal_field R.Enlisted = None
 refusal_field R.StillWaits = None
 refusal_field R.NoneWaits = None
 refusal_field R.Exhausted = None
+
+-- a space and the number
+abbrev pub number_word : ℕ → List ℕ
+number_word n = codes " " ++ decimal n
+
+abbrev pub field_word : Option ℕ → List ℕ
+field_word None = []
+field_word (Some field) = number_word field
+
+abbrev pub refusal_line : Refusal → List ℕ
+refusal_line r = codes "refused" ++ (number_word (refusal_number r) ++ field_word (refusal_field r))

@@ -1,9 +1,12 @@
 //! The codes of answers.
 ghost use Rattle.std.specs.Prelude.{◌≡◌};
+ghost use Rattle.std.specs.Result.{result_ok};
 ghost use Rattle.protocol.specs.Words.{code_number, code_numbered};
 
+use crate::unknown::Unknown;
+
 /// What a box answers to one group of a request.
-#[derive(Clone, Copy)]
+#[derive(Clone, Copy, Debug, PartialEq, Eq)]
 pub enum Code {
     /// The read or write was done.
     Done,
@@ -15,29 +18,33 @@ pub enum Code {
     OutsideLimits,
 }
 
-impl Code {
-    /// The number that stands for the code in a packet.
-    pub fn number(self) -> u8
-        ensures { result ≡ code_number self }
-    {
-        match self {
+/// The number that stands for the code in a packet.
+impl From<Code> for u8 {
+    ghost from_gives = { λ c n. n ≡ code_number c };
+
+    fn from(code: Code) -> u8 {
+        match code {
             Code::Done => 0,
             Code::NotFound => 1,
             Code::WrongType => 2,
             Code::OutsideLimits => 3,
         }
     }
+}
 
-    /// The code that a number stands for.
-    pub fn numbered(number: u16) -> Option<Code>
-        ensures { result ≡ code_numbered number }
-    {
+/// The code that a number stands for.
+impl TryFrom<u16> for Code {
+    type Error = Unknown;
+
+    ghost try_from_gives = { λ n r. result_ok r ≡ code_numbered n };
+
+    fn try_from(number: u16) -> Result<Code, Unknown> {
         match number {
-            0 => Some(Code::Done),
-            1 => Some(Code::NotFound),
-            2 => Some(Code::WrongType),
-            3 => Some(Code::OutsideLimits),
-            _ => None,
+            0 => Ok(Code::Done),
+            1 => Ok(Code::NotFound),
+            2 => Ok(Code::WrongType),
+            3 => Ok(Code::OutsideLimits),
+            _ => Err(Unknown),
         }
     }
 }

@@ -1,9 +1,14 @@
 //! The types of values.
-ghost use Rattle.std.specs.Prelude.{◌≡◌};
+ghost use Rattle.std.specs.Prelude.{◌≡◌, Some};
+ghost use Rattle.std.specs.Result.{result_ok};
 ghost use Rattle.protocol.specs.Words.{kind_word, kind_named, kind_number};
 
+use crate::unknown::Unknown;
+use std::fmt;
+use std::str::FromStr;
+
 /// The type of a value. Nil, which stands for no value in a packet's answer, is none of them.
-#[derive(Clone, Copy)]
+#[derive(Clone, Copy, Debug, PartialEq, Eq)]
 pub enum Kind {
     /// True or False.
     Bo,
@@ -25,12 +30,12 @@ pub enum Kind {
     St,
 }
 
-impl Kind {
-    /// The place of the type in the table of types, from 0.
-    pub fn number(self) -> u8
-        ensures { result ≡ kind_number self }
-    {
-        match self {
+/// The place of the type in the table of types, from 0.
+impl From<Kind> for u8 {
+    ghost from_gives = { λ k n. n ≡ kind_number k };
+
+    fn from(kind: Kind) -> u8 {
+        match kind {
             Kind::Bo => 0,
             Kind::In => 1,
             Kind::Sh => 2,
@@ -42,7 +47,9 @@ impl Kind {
             Kind::St => 8,
         }
     }
+}
 
+impl Kind {
     /// The identifier that names the type in a packet.
     pub fn word(self) -> &'static str
         ensures { result.now ≡ kind_word self }
@@ -59,22 +66,35 @@ impl Kind {
             Kind::St => "St",
         }
     }
+}
 
-    /// The type that an identifier names.
-    pub fn named(word: &str) -> Option<Kind>
-        ensures { result ≡ kind_named word.now }
-    {
+/// Writes the identifier.
+impl fmt::Display for Kind {
+    ghost output = { λ k. Some (kind_word k) };
+
+    fn fmt<W: fmt::Write>(&self, f: &mut fmt::Formatter<W>) -> fmt::Result {
+        f.write_str(self.word())
+    }
+}
+
+/// The type that an identifier names.
+impl FromStr for Kind {
+    type Err = Unknown;
+
+    ghost from_str_gives = { λ word r. result_ok r ≡ kind_named word };
+
+    fn from_str(word: &str) -> Result<Kind, Unknown> {
         match word {
-            "Bo" => Some(Kind::Bo),
-            "In" => Some(Kind::In),
-            "Sh" => Some(Kind::Sh),
-            "USh" => Some(Kind::USh),
-            "Lo" => Some(Kind::Lo),
-            "Si" => Some(Kind::Si),
-            "Do" => Some(Kind::Do),
-            "By" => Some(Kind::By),
-            "St" => Some(Kind::St),
-            _ => None,
+            "Bo" => Ok(Kind::Bo),
+            "In" => Ok(Kind::In),
+            "Sh" => Ok(Kind::Sh),
+            "USh" => Ok(Kind::USh),
+            "Lo" => Ok(Kind::Lo),
+            "Si" => Ok(Kind::Si),
+            "Do" => Ok(Kind::Do),
+            "By" => Ok(Kind::By),
+            "St" => Ok(Kind::St),
+            _ => Err(Unknown),
         }
     }
 }

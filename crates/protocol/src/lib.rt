@@ -1,5 +1,6 @@
 //! The words of the protocol: type tags, answer codes, refusals, and texts of 1 to 40 bytes.
-//! Each enum's cases have their numbers and values by a definition of specs/Words.antt, and a call tells them.
+//! Each enum's cases have their numbers and words by a definition of specs/Words.antt; `From`, `TryFrom` and `FromStr` go
+//! between them.
 #![tactic(auto)]
 
 pub mod code;
@@ -8,4 +9,5 @@ pub mod numeral;
 pub mod refusal;
 pub mod row;
 pub mod text;
-pub mod texts;
+mod texts;
+pub mod unknown;

@@ -1,10 +1,8 @@
 //! Whole numbers as digits.
-ghost use Rattle.std.specs.Prelude.{◌≤◌};
+use arrayvec::ArrayString;
 
-/// A whole number written out: the first `len` of the bytes.
+/// A whole number written out.
 #[derive(Clone, Copy)]
 pub struct Numeral {
-    pub(crate) bytes: [u8; 20],
-    pub(crate) len: usize,
-    ghost within: { len ≤ 20 },
+    pub(crate) digits: ArrayString<20>,
 }

@@ -1,10 +1,13 @@
 //! The grounds on which a station turns a call down.
-ghost use Rattle.std.specs.Prelude.{◌≡◌};
-ghost use Rattle.protocol.specs.Words.{refusal_number, refusal_field};
+ghost use Rattle.std.specs.Prelude.{◌≡◌, Some};
+ghost use Rattle.protocol.specs.Words.{refusal_number, refusal_field, refusal_line};
+
+use std::error::Error;
+use std::fmt;
 
 /// Why a call is turned down. A refused call changes nothing. Where several grounds hold, the one
 /// with the lowest number is told.
-#[derive(Clone, Copy)]
+#[derive(Clone, Copy, Debug, PartialEq, Eq)]
 pub enum Refusal {
     /// The time is below one that the station accepted, or above 10^15.
     Time,
@@ -42,12 +45,12 @@ pub enum Refusal {
     Exhausted,
 }
 
-impl Refusal {
-    /// The number of the ground.
-    pub fn number(self) -> u8
-        ensures { result ≡ refusal_number self }
-    {
-        match self {
+/// The number of the ground.
+impl From<Refusal> for u8 {
+    ghost from_gives = { λ r n. n ≡ refusal_number r };
+
+    fn from(refusal: Refusal) -> u8 {
+        match refusal {
             Refusal::Time => 1,
             Refusal::ShortMemory => 2,
             Refusal::TooLong => 3,
@@ -67,7 +70,9 @@ impl Refusal {
             Refusal::Exhausted => 17,
         }
     }
+}
 
+impl Refusal {
     /// The first field at fault, counted from 0, where the ground is about a field.
     pub fn field(self) -> Option<u8>
         ensures { result ≡ refusal_field self }
@@ -80,3 +85,18 @@ impl Refusal {
         }
     }
 }
+
+/// Writes `refused`, the number, and the field at fault where there is one.
+impl fmt::Display for Refusal {
+    ghost output = { λ r. Some (refusal_line r) };
+
+    fn fmt<W: fmt::Write>(&self, f: &mut fmt::Formatter<W>) -> fmt::Result {
+        let number = u8::from(*self);
+        match self.field() {
+            Some(field) => write!(f, "refused {number} {field}"),
+            None => write!(f, "refused {number}"),
+        }
+    }
+}
+
+impl Error for Refusal {}

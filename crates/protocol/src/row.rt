@@ -4,38 +4,25 @@ ghost use Rattle.protocol.specs.Rows.{put_at, fits};
 ghost use Rattle.protocol.specs.Held.{digits_of};
 
 use crate::numeral::Numeral;
-
-/// Writes the digits of a number into a row, which has room for them, and tells where they end.
-fn put_digits(row: &mut [u8], at: usize, n: u64) -> usize
-    requires { at + length (decimal n) ≤ length row.old }
-    ensures end { result ≡ at + length (decimal n) }
-    ensures row { row.new ≡ put_at row.old at (decimal n) }
-{
-    let digit = b'0' + (n % 10) as u8;
-    if n < 10 {
-        row[at] = digit;
-        return at + 1;
-    }
-    let end = put_digits(row, at, n / 10);
-    row[end] = digit;
-    end + 1
-}
+use arrayvec::ArrayString;
+use itoa::Buffer;
 
 impl Numeral {
     /// The digits of a number.
     pub fn new(n: u64) -> Numeral
         ensures { digits_of result ≡ decimal n }
     {
-        let mut bytes = [0u8; 20];
-        let len = put_digits(&mut bytes, 0, n);
-        Numeral { bytes, len }
+        let mut buffer = Buffer::new();
+        let mut digits = ArrayString::new();
+        digits.push_str(buffer.format(n));
+        Numeral { digits }
     }
 
     /// The digits as bytes.
     pub fn as_bytes(&self) -> &[u8]
         ensures { result.now ≡ digits_of self.now }
     {
-        &self.bytes[0..self.len]
+        self.digits.as_str().as_bytes()
     }
 }
 

@@ -1,12 +1,12 @@
 //! Texts.
-ghost use Rattle.std.specs.Prelude.{◌≡◌, ◌≤◌, true, take};
+ghost use Rattle.std.specs.Prelude.{◌≡◌, true};
 ghost use Rattle.protocol.specs.Texts.{textual};
 
-/// A text: the first `len` of the bytes, which are UTF-8 without `{`, `}` and `:`, 1 to 40 of them.
-#[derive(Clone, Copy)]
+use arrayvec::ArrayString;
+
+/// A text: 1 to 40 bytes of UTF-8 without `{`, `}` and `:`.
+#[derive(Clone, Copy, PartialEq, Eq)]
 pub struct Text {
-    pub(crate) bytes: [u8; 40],
-    pub(crate) len: u8,
-    ghost short: { len ≤ 40 },
-    ghost plain: { textual (take len bytes) ≡ true },
+    pub(crate) characters: ArrayString<40>,
+    ghost plain: { textual characters.bytes ≡ true },
 }

@@ -1,10 +1,12 @@
 //! Making and reading texts.
-ghost use Rattle.std.specs.Prelude.{◌≡◌, ℕ, ◌<◌, ◌≤◌, true, length};
+ghost use Rattle.std.specs.Prelude.{◌≡◌, ◌≤◌, true, length, Some};
 ghost use Rattle.std.specs.Option.{option_map};
-ghost use Rattle.protocol.specs.Texts.{reserved, free, utf8, sized, textual, text_of};
+ghost use Rattle.protocol.specs.Texts.{reserved, free, sized, textual, text_of};
 ghost use Rattle.protocol.specs.Held.{text_bytes};
 
 use crate::text::Text;
+use arrayvec::ArrayString;
+use std::fmt;
 use std::str::from_utf8;
 
 /// Whether a packet reserves the byte.
@@ -18,36 +20,14 @@ fn is_reserved(b: u8) -> bool
 fn is_free(bytes: &[u8]) -> bool
     ensures { result ≡ free bytes.now }
 {
-    for b in bytes {
-        if is_reserved(*b) {
-            return false;
-        }
-    }
-    true
-}
-
-/// Whether the bytes are UTF-8.
-fn is_utf8(bytes: &[u8]) -> bool
-    ensures { result ≡ utf8 bytes.now }
-{
-    match from_utf8(bytes) {
-        Ok(_) => true,
-        Err(_) => false,
-    }
+    !bytes.iter().any(|b| is_reserved(*b))
 }
 
 /// Whether there are 1 to 40 bytes.
 fn is_sized(bytes: &[u8]) -> bool
     ensures { result ≡ sized bytes.now }
 {
-    1 <= bytes.len() && bytes.len() <= 40
-}
-
-/// Whether the bytes are a text.
-fn is_text(bytes: &[u8]) -> bool
-    ensures { result ≡ textual bytes.now }
-{
-    is_sized(bytes) && is_free(bytes) && is_utf8(bytes)
+    (1..=40).contains(&bytes.len())
 }
 
 impl Text {
@@ -55,16 +35,21 @@ impl Text {
     pub fn new(bytes: &[u8]) -> Option<Text>
         ensures { option_map text_bytes result ≡ text_of bytes.now }
     {
-        if !is_text(bytes) {
+        if !is_sized(bytes) || !is_free(bytes) {
             return None;
         }
-        let mut held = [0u8; 40];
-        let n = bytes.len();
-        held[0..n].copy_from_slice(bytes);
-        Some(Text {
-            bytes: held,
-            len: n as u8,
-        })
+        let characters = from_utf8(bytes).ok()?;
+        let mut text = ArrayString::new();
+        text.push_str(characters);
+        Some(Text { characters: text })
+    }
+
+    /// The characters of the text.
+    pub fn as_str(&self) -> &str
+        ensures value { result.now ≡ text_bytes self.now }
+        ensures plain { textual result.now ≡ true }
+    {
+        self.characters.as_str()
     }
 
     /// The bytes of the text.
@@ -73,6 +58,15 @@ impl Text {
         ensures plain { textual result.now ≡ true }
         ensures short { (1 ≤ length result.now) × (length result.now ≤ 40) }
     {
-        &self.bytes[0..self.len as usize]
+        self.as_str().as_bytes()
+    }
+}
+
+/// Writes the characters.
+impl fmt::Display for Text {
+    ghost output = { λ t. Some (text_bytes t) };
+
+    fn fmt<W: fmt::Write>(&self, f: &mut fmt::Formatter<W>) -> fmt::Result {
+        f.write_str(self.as_str())
     }
 }
