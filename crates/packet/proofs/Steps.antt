@@ -1,8 +1,13 @@
 -- One field after the other.
-use Rattle.std.proofs.Common.{◌≡◌, ℕ, List, drop, Option, Result, ap, ◌∙◌}
+use Rattle.std.proofs.Common.{◌≡◌, ℕ, List, length, drop, is_some, Some, None, Ok, Err, Option, Result, OnOk, is_ok, true, MatchResult, refl, ap, ◌∙◌, arith}
+use Rattle.std.specs.Bool.{then_some}
+use Rattle.std.specs.Option.{option_map, ok_or}
+use Rattle.std.specs.Iterator.{YieldsFirstBy, MakesProgress, item_count}
 use Rattle.std.proofs.lemmas.List.{drop-drop}
 use Rattle.protocol.specs.declared.refusal.Refusal.{Refusal}
+use Rattle.field.specs.declared.fields.Fields.{Fields}
 use Rattle.field.specs.Fields.{first}
+use Rattle.field.specs.Parts.{Onward}
 use Rattle.packet.specs.declared.head.Head.{Head}
 use Rattle.packet.specs.Heads.{head_by, head_of}
 use Rattle.packet.specs.Groups.{Readout, reading_by, reading_group}
@@ -23,3 +28,32 @@ head_from fs v d n m told p q r s = told ∙ (λ i. head_by (p i) (q i) (r i) (s
 
 pub reading_from : {x : Result Readout ℕ} (fs : List (List ℕ)) (code word text : Option (List ℕ)) → x ≡ reading_by code word text → code ≡ first fs → word ≡ first (drop 1 fs) → text ≡ first (drop 2 fs) → x ≡ reading_group fs
 reading_from fs code word text told p q r = told ∙ (λ i. reading_by (p i) (q i) (r i))
+
+-- a cursor that went on twice went on
+pub onward_twice : (a b c : Fields) → Onward a b → Onward b c → Onward a c
+onward_twice a b c h k packet within = k packet (h packet within)
+
+-- what `ok_or` found
+pub some_of : {X E : Type 0} (e : E) (o : Option X) (x : X) → Ok x ≡ ok_or o e → o ≡ Some x
+some_of e None x h = cc
+some_of e (Some y) x h = cc
+
+-- a text that a value can be read of
+pub kept_if_some : {X Y : Type 0} (o : Option X) (y : Y) → option_map (λ _. y) o ≡ then_some (is_some o) y
+kept_if_some None y = refl
+kept_if_some (Some x) y = refl
+
+-- a cursor that hands out the first of a list comes to its end
+pub progress : {S A B : Type 0} (view : A → B) (rest : S → List B) (s : S) (r : Option A) (t : S) → YieldsFirstBy view rest s r t → MakesProgress (λ _. Unit {0}) (item_count rest) s r t
+progress view rest s None t h = record { on = λ _. tt; keeps = tt; rests = λ _. tt }
+progress view rest s (Some x) t h = record { on = λ _. (tt, tt, omega (arith, ap length h)); keeps = tt; rests = λ _. tt }
+
+-- what holds anyway holds where a value is there
+pub on_ok : {X E P : Type 0} (r : Result X E) → P → OnOk r P
+on_ok (Ok x) p = p
+on_ok (Err e) p = tt
+
+-- what `map_err` passes on was there
+pub ok_of : {X E : Type 0} (F : Type 0) (Q : E → Type 0) (r : Result X E) (x : X) → MatchResult r (λ y. ◌≡◌ {A = Result X F} (Ok x) (Ok y)) Q → true ≡ is_ok r → r ≡ Ok x
+ok_of F Q (Ok y) x e k = cc
+ok_of F Q (Err y) x e k = cc

@@ -3,71 +3,47 @@ use Rattle.std.specs.Prelude.{ℕ, List, Some, None, Ok, Err, Option, Result}
 use Rattle.protocol.specs.declared.code.Code.{Code}
 use Rattle.field.specs.declared.part.Part.{Part}
 use Rattle.field.specs.Parts.{part_bytes, fields_left}
+use Rattle.packet.specs.declared.groups.Groups.{Groups}
+use Rattle.packet.specs.declared.indices.IndexGroup.{IndexGroup}
 use Rattle.packet.specs.declared.writes.Write.{Write}
-use Rattle.packet.specs.declared.indices.Indices.{Indices}
-use Rattle.packet.specs.declared.writes.Writes.{Writes}
-use Rattle.packet.specs.declared.codes.Codes.{Codes}
-use Rattle.packet.specs.declared.readings.Reading.{Reading}
-use Rattle.packet.specs.declared.readings.Reading.TheVariants.{Found, Lacking}
-use Rattle.packet.specs.declared.readings.Readings.{Readings}
+use Rattle.packet.specs.declared.writes.WriteGroup.{WriteGroup}
+use Rattle.packet.specs.declared.codes.CodeGroup.{CodeGroup}
+use Rattle.packet.specs.declared.readings.Found.{Found}
+use Rattle.packet.specs.declared.readings.ReadingGroup.{ReadingGroup}
+use Rattle.packet.specs.Rules.{with_ok}
 use Rattle.packet.specs.Groups.{index_group, write_group, code_group, reading_group, Readout, found, lacking, ahead}
 
 -- an index and a text
 abbrev pub write_of : Write → ℕ × List ℕ
 write_of w = (w.index, part_bytes w.text)
 
--- a group of a write request, or the place in it of the first field at fault
-abbrev pub told_write : Result Write ℕ → Result (ℕ × List ℕ) ℕ
-told_write (Ok w) = Ok (write_of w)
-told_write (Err place) = Err place
+-- a type and a text
+abbrev pub found_of : Found → Readout
+found_of x = found x.kind (part_bytes x.text)
 
 -- what a read answer tells of one element
-abbrev pub readout_of : Reading → Readout
-readout_of (Found kind text) = found kind (part_bytes text)
-readout_of (Lacking code) = lacking code
-
--- a group of a read answer, or the place in it of the first field at fault
-abbrev pub told_reading : Result Reading ℕ → Result Readout ℕ
-told_reading (Ok x) = Ok (readout_of x)
-told_reading (Err place) = Err place
+abbrev pub readout_of : Result Found Code → Readout
+readout_of (Ok x) = found_of x
+readout_of (Err code) = lacking code
 
 -- the part that holds its text
-abbrev pub reading_part : Reading → Option Part
-reading_part (Found kind text) = Some text
-reading_part (Lacking code) = None
+abbrev pub reading_part : Result Found Code → Option Part
+reading_part (Ok x) = Some x.text
+reading_part (Err code) = None
 
--- the indices that a cursor has still to hand out
-abbrev pub indices_ahead : Indices → List ℕ
-indices_ahead c = ahead 1 index_group c.left (fields_left c.fields)
+-- the groups that a cursor has still to hand out
+abbrev pub groups_ahead : {G X : Type 0} → ℕ → (List (List ℕ) → Result X ℕ) → Groups G → List X
+groups_ahead width group c = ahead width group c.left (fields_left c.fields)
 
--- the writes that a cursor has still to hand out
-abbrev pub writes_ahead : Writes → List (ℕ × List ℕ)
-writes_ahead c = ahead 2 write_group c.left (fields_left c.fields)
+-- of each kind
+abbrev pub indices_ahead : Groups IndexGroup → List ℕ
+indices_ahead = groups_ahead 1 index_group
 
--- the codes that a cursor has still to hand out
-abbrev pub codes_ahead : Codes → List Code
-codes_ahead c = ahead 1 code_group c.left (fields_left c.fields)
+abbrev pub writes_ahead : Groups WriteGroup → List (ℕ × List ℕ)
+writes_ahead = groups_ahead 2 write_group
 
--- the readings that a cursor has still to hand out
-abbrev pub readings_ahead : Readings → List Readout
-readings_ahead c = ahead 3 reading_group c.left (fields_left c.fields)
+abbrev pub codes_ahead : Groups CodeGroup → List Code
+codes_ahead = groups_ahead 1 code_group
 
--- all groups of a read request, or the first field at fault
-abbrev pub told_indices : Result Indices ℕ → Result (List ℕ) ℕ
-told_indices (Ok c) = Ok (indices_ahead c)
-told_indices (Err k) = Err k
-
--- all groups of a write request, or the first field at fault
-abbrev pub told_writes : Result Writes ℕ → Result (List (ℕ × List ℕ)) ℕ
-told_writes (Ok c) = Ok (writes_ahead c)
-told_writes (Err k) = Err k
-
--- all groups of a write answer, or the first field at fault
-abbrev pub told_codes : Result Codes ℕ → Result (List Code) ℕ
-told_codes (Ok c) = Ok (codes_ahead c)
-told_codes (Err k) = Err k
-
--- all groups of a read answer, or the first field at fault
-abbrev pub told_readings : Result Readings ℕ → Result (List Readout) ℕ
-told_readings (Ok c) = Ok (readings_ahead c)
-told_readings (Err k) = Err k
+abbrev pub readings_ahead : Groups ReadingGroup → List Readout
+readings_ahead = groups_ahead 3 reading_group

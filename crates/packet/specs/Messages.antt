@@ -12,6 +12,7 @@ use Rattle.field.specs.declared.words.Direction.TheVariants.{Request, Answer}
 use Rattle.field.specs.declared.words.Command.{Command}
 use Rattle.field.specs.declared.words.Command.TheVariants.{Read, Write, Discovery}
 use Rattle.packet.specs.declared.head.Head.{Head}
+pub use Rattle.packet.specs.Rules.{with_ok}
 use Rattle.packet.specs.Heads.{head_of}
 use Rattle.packet.specs.Groups.{index_group, write_group, code_group, reading_group, Readout, groups, discovery_of, KeptWrite, KeptReadout}
 
@@ -72,11 +73,6 @@ Kept discovery_request = Unit {0}
 Kept (read_answer xs) = AllByRecursion KeptReadout xs
 Kept (write_answer cs) = Unit {0}
 Kept (discovery_answer xs) = AllByRecursion KeptReadout xs
-
--- what comes of a payload that is read
-abbrev pub with_ok : {X Y E : Type 0} → (X → Y) → Result X E → Result Y E
-with_ok f (Ok x) = Ok (f x)
-with_ok f (Err e) = Err e
 
 -- the payload's fields, read as direction and command say, or the first of them at fault
 abbrev pub content_by : Direction → Command → List (List ℕ) → Result Content ℕ

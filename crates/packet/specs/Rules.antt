@@ -1,5 +1,5 @@
 -- The rules of single fields, each of which may be missing.
-use Rattle.std.specs.Prelude.{ℕ, Bool, false, cond, List, Some, None, Err, Option, Result}
+use Rattle.std.specs.Prelude.{ℕ, Bool, false, cond, List, Some, None, Ok, Err, Option, Result}
 use Rattle.std.specs.Option.{option_map}
 use Rattle.std.specs.Str.{bytes_eq}
 use Rattle.protocol.specs.declared.code.Code.{Code}
@@ -25,6 +25,11 @@ ruled rule field = then field rule
 abbrev pub or_fault : {X Y E : Type 0} → E → Option X → (X → Result Y E) → Result Y E
 or_fault fault None next = Err fault
 or_fault fault (Some x) next = next x
+
+-- what is made of what was read
+abbrev pub with_ok : {X Y E : Type 0} → (X → Y) → Result X E → Result Y E
+with_ok f (Ok x) = Ok (f x)
+with_ok f (Err e) = Err e
 
 -- the field is the word
 abbrev pub is_word : List ℕ → Option (List ℕ) → Bool

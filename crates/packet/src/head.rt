@@ -53,21 +53,11 @@ fn head_by(
 ) -> Result<Head, Refusal>
     ensures { result ≡ head_by (option_map part_bytes version.entry) (option_map part_bytes direction.entry) (option_map part_bytes number.entry) (option_map part_bytes command.entry) }
 {
-    let Some(version) = version_beside(command, version) else {
-        return Err(Refusal::Head(0));
-    };
-    let Some(direction) = direction_in(direction) else {
-        return Err(Refusal::Head(1));
-    };
-    let Some(number) = number_in(number, 65535) else {
-        return Err(Refusal::Head(2));
-    };
-    let Some(command) = number_in(command, 255) else {
-        return Err(Refusal::Head(3));
-    };
-    let Some(command) = Command::numbered(command) else {
-        return Err(Refusal::Command(3));
-    };
+    let version = version_beside(command, version).ok_or(Refusal::Head(0))?;
+    let direction = direction_in(direction).ok_or(Refusal::Head(1))?;
+    let number = number_in(number, 65535).ok_or(Refusal::Head(2))?;
+    let command = number_in(command, 255).ok_or(Refusal::Head(3))?;
+    let command = Command::numbered(command).ok_or(Refusal::Command(3))?;
     Ok(Head {
         version,
         direction,

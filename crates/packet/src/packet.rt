@@ -4,7 +4,6 @@ ghost use Rattle.std.specs.Option.{option_map};
 ghost use Rattle.field.specs.Fields.{fields, first};
 ghost use Rattle.field.specs.Frames.{fields_of};
 ghost use Rattle.field.specs.Parts.{part_bytes, fields_left, Stands, Within, Hands};
-ghost use Rattle.field.specs.declared.words.Direction.TheVariants.{Request, Answer};
 ghost use Rattle.packet.specs.Messages.{direction_of, command_of, Bounded, Kept, content_by, after_frame, packet_of};
 ghost use Rattle.packet.specs.Packets.{message_of, told_body, seen, body_count, Counted, BodyWithin, PacketWithin};
 
@@ -96,45 +95,25 @@ impl<'a> Packet<'a> {
     }
 }
 
-/// Reads the payload of a request, or tells the first field at fault.
-fn read_request<'a>(command: Command, payload: Part<'a>) -> Result<Body<'a>, u8>
-    ensures content { told_body result ≡ content_by Request command (fields (part_bytes payload.entry)) }
-    ensures count { IfOk result Counted }
-    ensures place { IfOk result (λ body. (packet : List ℕ) → Stands packet payload.entry → BodyWithin packet body) }
-{
-    match command {
-        Command::Read => Ok(Body::ReadRequest(Indices::read(payload)?)),
-        Command::Write => Ok(Body::WriteRequest(Writes::read(payload)?)),
-        Command::Discovery => {
-            read_discovery(payload)?;
-            Ok(Body::DiscoveryRequest)
-        }
-    }
-}
-
-/// Reads the payload of an answer, or tells the first field at fault.
-fn read_answer<'a>(command: Command, payload: Part<'a>) -> Result<Body<'a>, u8>
-    ensures content { told_body result ≡ content_by Answer command (fields (part_bytes payload.entry)) }
-    ensures count { IfOk result Counted }
-    ensures place { IfOk result (λ body. (packet : List ℕ) → Stands packet payload.entry → BodyWithin packet body) }
-{
-    match command {
-        Command::Read => Ok(Body::ReadAnswer(Readings::read(payload, 1, 10)?)),
-        Command::Write => Ok(Body::WriteAnswer(Codes::read(payload)?)),
-        Command::Discovery => Ok(Body::DiscoveryAnswer(Readings::read(payload, 2, 2)?)),
-    }
-}
-
 /// Reads the payload as direction and command say, or tells the first field at fault.
 fn read_body<'a>(direction: Direction, command: Command, payload: Part<'a>) -> Result<Body<'a>, u8>
     ensures content { told_body result ≡ content_by direction command (fields (part_bytes payload.entry)) }
     ensures count { IfOk result Counted }
     ensures place { IfOk result (λ body. (packet : List ℕ) → Stands packet payload.entry → BodyWithin packet body) }
 {
-    match direction {
-        Direction::Request => read_request(command, payload),
-        Direction::Answer => read_answer(command, payload),
-    }
+    Ok(match (direction, command) {
+        (Direction::Request, Command::Read) => Body::ReadRequest(Indices::read(payload, 1, 10)?),
+        (Direction::Request, Command::Write) => Body::WriteRequest(Writes::read(payload, 1, 10)?),
+        (Direction::Request, Command::Discovery) => {
+            read_discovery(payload)?;
+            Body::DiscoveryRequest
+        }
+        (Direction::Answer, Command::Read) => Body::ReadAnswer(Readings::read(payload, 1, 10)?),
+        (Direction::Answer, Command::Write) => Body::WriteAnswer(Codes::read(payload, 1, 10)?),
+        (Direction::Answer, Command::Discovery) => Body::DiscoveryAnswer(Readings::read(
+            payload, 2, 2,
+        )?),
+    })
 }
 
 /// Reads the fields of a packet.
@@ -146,18 +125,14 @@ fn read_fields(all: Fields<'_>) -> Result<Packet<'_>, Refusal>
 {
     let mut fields = all;
     let head = read_head(&mut fields)?;
-    let Some(payload) = fields.rest else {
-        return Err(Refusal::Payload(4));
-    };
-    match read_body(head.direction, head.command, payload) {
-        Ok(body) => Ok(Packet {
-            fields: all,
-            version: head.version,
-            number: head.number,
-            body,
-        }),
-        Err(field) => Err(Refusal::Payload(field)),
-    }
+    let payload = fields.rest.ok_or(Refusal::Payload(4))?;
+    let body = read_body(head.direction, head.command, payload).map_err(Refusal::Payload)?;
+    Ok(Packet {
+        fields: all,
+        version: head.version,
+        number: head.number,
+        body,
+    })
 }
 
 /// Reads a packet, or tells the first ground on which it is refused.

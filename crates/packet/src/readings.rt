@@ -1,58 +1,51 @@
 //! The payload of a read or Discovery answer: a code, a type and a value in each group.
-ghost use Rattle.std.specs.Prelude.{◌≡◌, ◌≤◌, length, drop, IfOk, IfErr, Some};
+ghost use Rattle.std.specs.Prelude.{◌≡◌, ◌<◌, refl, IfOk, IfErr, Some};
 ghost use Rattle.std.specs.Option.{option_map};
-ghost use Rattle.field.specs.Fields.{fields, first};
-ghost use Rattle.field.specs.Parts.{part_bytes, fields_left, Hands, Onward};
-ghost use Rattle.packet.specs.Rules.{then, Keeps, Passes};
-ghost use Rattle.packet.specs.Groups.{found_by, lacking_by, reading_by, reading_group, groups};
-ghost use Rattle.packet.specs.Cursors.{readout_of, told_reading, reading_part, readings_ahead, told_readings};
+ghost use Rattle.std.proofs.Common.{lit≤};
+ghost use Rattle.field.specs.Parts.{part_bytes};
+ghost use Rattle.packet.specs.Rules.{with_ok, Passes};
+ghost use Rattle.packet.specs.Groups.{Readout, found_by, lacking, lacking_by, reading_by, reading_group};
+ghost use Rattle.packet.specs.Cursors.{found_of, readout_of, reading_part};
 
+use crate::groups::{Group, Groups, Width};
 use crate::rules::{code_in, is_word, kind_in, value_in};
 use field::fields::Fields;
 use field::part::Part;
 use protocol::code::Code;
 use protocol::kind::Kind;
 
-/// One group of a read answer.
+/// What goes with code 0: the type of the value, and its text.
 #[derive(Clone, Copy)]
-pub enum Reading<'a> {
-    /// Code 0: the type of the value, and its text.
-    Found(Kind, Part<'a>),
-    /// Another code, with which no value goes.
-    Lacking(Code),
+pub struct Found<'a> {
+    pub kind: Kind,
+    pub text: Part<'a>,
 }
+
+/// One group of a read answer: what was found, or the code with which no value goes.
+pub type Reading<'a> = Result<Found<'a>, Code>;
+
+/// A group of a read or Discovery answer is a code, a type and a value.
+#[derive(Clone, Copy)]
+pub struct ReadingGroup;
 
 /// The groups of a read answer that are still to come.
-#[derive(Clone, Copy)]
-pub struct Readings<'a> {
-    pub(crate) fields: Fields<'a>,
-    pub(crate) left: u8,
-}
+pub type Readings<'a> = Groups<'a, ReadingGroup>;
 
 /// A type and a text that writes a value of it.
-fn found_by<'a>(word: Option<Part<'a>>, text: Option<Part<'a>>) -> Result<Reading<'a>, u8>
-    ensures group { told_reading result ≡ found_by (option_map part_bytes word.entry) (option_map part_bytes text.entry) }
-    ensures bound { IfErr result (λ place. place ≤ 2) }
-    ensures place { IfOk result (λ x. Passes text.entry (reading_part x)) }
+fn found_by<'a>(word: Option<Part<'a>>, text: Option<Part<'a>>) -> Result<Found<'a>, u8>
+    ensures group { with_ok found_of result ≡ found_by (option_map part_bytes word.entry) (option_map part_bytes text.entry) }
+    ensures bound { IfErr result (λ place. place < 3) }
+    ensures place { IfOk result (λ x. Passes text.entry (Some x.text)) }
 {
-    let Some(kind) = kind_in(word) else {
-        return Err(1);
-    };
-    let Some(value) = value_in(kind, text) else {
-        return Err(2);
-    };
-    Ok(Reading::Found(kind, value))
+    let kind = kind_in(word).ok_or(1)?;
+    let text = value_in(kind, text).ok_or(2)?;
+    Ok(Found { kind, text })
 }
 
 /// A code that stands with Nil and 0.
-fn lacking_by<'a>(
-    code: Code,
-    word: Option<Part<'a>>,
-    text: Option<Part<'a>>,
-) -> Result<Reading<'a>, u8>
-    ensures group { told_reading result ≡ lacking_by code (option_map part_bytes word.entry) (option_map part_bytes text.entry) }
-    ensures bound { IfErr result (λ place. place ≤ 2) }
-    ensures place { IfOk result (λ x. Passes text.entry (reading_part x)) }
+fn lacking_by(code: Code, word: Option<Part<'_>>, text: Option<Part<'_>>) -> Result<Code, u8>
+    ensures group { with_ok lacking result ≡ lacking_by code (option_map part_bytes word.entry) (option_map part_bytes text.entry) }
+    ensures bound { IfErr result (λ place. place < 3) }
 {
     if !is_word(word, "Nil") {
         return Err(1);
@@ -60,7 +53,7 @@ fn lacking_by<'a>(
     if !is_word(text, "0") {
         return Err(2);
     }
-    Ok(Reading::Lacking(code))
+    Ok(code)
 }
 
 /// The group that these three fields are, or the place of the first at fault.
@@ -69,83 +62,41 @@ fn reading_by<'a>(
     word: Option<Part<'a>>,
     text: Option<Part<'a>>,
 ) -> Result<Reading<'a>, u8>
-    ensures group { told_reading result ≡ reading_by (option_map part_bytes code.entry) (option_map part_bytes word.entry) (option_map part_bytes text.entry) }
-    ensures bound { IfErr result (λ place. place ≤ 2) }
+    ensures group { with_ok readout_of result ≡ reading_by (option_map part_bytes code.entry) (option_map part_bytes word.entry) (option_map part_bytes text.entry) }
+    ensures bound { IfErr result (λ place. place < 3) }
     ensures place { IfOk result (λ x. Passes text.entry (reading_part x)) }
 {
-    let Some(code) = code_in(code) else {
-        return Err(0);
-    };
-    match code {
-        Code::Done => found_by(word, text),
-        _ => lacking_by(code, word, text),
-    }
+    Ok(match code_in(code).ok_or(0)? {
+        Code::Done => Ok(found_by(word, text)?),
+        code => Err(lacking_by(code, word, text)?),
+    })
 }
 
-/// Reads a group of a read answer, or tells the place in it of the first field at fault.
-fn read_reading<'a>(fields: &mut Fields<'a>) -> Result<Reading<'a>, u8>
-    ensures group { told_reading result ≡ reading_group (fields_left fields.old) }
-    ensures bound { IfErr result (λ place. place ≤ 2) }
-    ensures after { fields_left fields.new ≡ drop 3 (fields_left fields.old) }
-    ensures place { IfOk result (λ x. Hands fields.old (reading_part x)) }
-    ensures onward { Onward fields.old fields.new }
-{
-    let code = fields.next_field();
-    let word = fields.next_field();
-    let text = fields.next_field();
-    reading_by(code, word, text)
+impl Width for ReadingGroup {
+    const WIDTH: u8 = 3;
+
+    ghost WIDTH = { 3 };
+
+    ghost narrow = { lit≤ tt };
 }
 
-impl<'a> Readings<'a> {
-    /// Reads the payload of an answer that tells of `least` to `most` elements.
-    pub(crate) fn read(payload: Part<'a>, least: u8, most: u8) -> Result<Readings<'a>, u8>
-        requires { most ≤ 10 }
-        ensures groups { told_readings result ≡ groups 3 reading_group 4 least (fields (part_bytes payload.entry)) most }
-        ensures count { IfOk result (λ c. c.left ≡ length (readings_ahead c)) }
-        ensures place { IfOk result (λ c. Keeps payload.entry c.fields) }
-    {
-        let all = Fields {
-            rest: Some(payload),
-        };
-        let mut rest = all;
-        let mut count = 0;
-        while !rest.is_empty() {
-            if count == most {
-                return Err(4 + 3 * count);
-            }
-            match read_reading(&mut rest) {
-                Ok(_) => count += 1,
-                Err(place) => return Err(4 + 3 * count + place),
-            }
-        }
-        if count < least {
-            return Err(4 + 3 * count);
-        }
-        Ok(Readings {
-            fields: all,
-            left: count,
-        })
-    }
+impl<'a> Group<'a> for ReadingGroup {
+    type Item = Reading<'a>;
 
-    /// What is told of the next element.
-    pub fn next_reading(&mut self) -> Option<Reading<'a>>
-        ensures value { option_map readout_of result ≡ first (readings_ahead self.old) }
-        ensures after { readings_ahead self.new ≡ drop 1 (readings_ahead self.old) }
-        ensures place { Hands self.old.fields (then result reading_part) }
-        ensures onward { Onward self.old.fields self.new.fields }
-    {
-        if self.left == 0 {
-            return None;
-        }
-        match read_reading(&mut self.fields) {
-            Ok(reading) => {
-                self.left -= 1;
-                Some(reading)
-            }
-            Err(_) => {
-                self.left = 0;
-                None
-            }
-        }
+    ghost Said = { Readout };
+
+    ghost said = { readout_of };
+
+    ghost group = { reading_group };
+
+    ghost none = { refl };
+
+    ghost part = { reading_part };
+
+    fn read(fields: &mut Fields<'a>) -> Result<Reading<'a>, u8> {
+        let code = fields.next_field();
+        let word = fields.next_field();
+        let text = fields.next_field();
+        reading_by(code, word, text)
     }
 }

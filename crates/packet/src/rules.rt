@@ -16,10 +16,7 @@ use value::read::read_value;
 pub(crate) fn is_word(field: Option<Part<'_>>, word: &str) -> bool
     ensures { result ≡ is_word word.now (option_map part_bytes field.entry) }
 {
-    match field {
-        Some(part) => part.text == word,
-        None => false,
-    }
+    field.is_some_and(|part| part.text == word)
 }
 
 /// The whole number up to `top` that the field spells.
@@ -34,12 +31,7 @@ pub(crate) fn text_in<'a>(field: Option<Part<'a>>) -> Option<Part<'a>>
     ensures text { option_map part_bytes result ≡ ruled sized_text (option_map part_bytes field.entry) }
     ensures place { Passes field.entry result }
 {
-    let part = field?;
-    if 1 <= part.text.len() && part.text.len() <= 40 {
-        Some(part)
-    } else {
-        None
-    }
+    field.filter(|part| 1 <= part.text.len() && part.text.len() <= 40)
 }
 
 /// The answer code that the field spells.
@@ -62,8 +54,6 @@ pub(crate) fn value_in<'a>(kind: Kind, field: Option<Part<'a>>) -> Option<Part<'
     ensures place { Passes field.entry result }
 {
     let part = field?;
-    match read_value(kind, part.text.as_bytes()) {
-        Some(_) => Some(part),
-        None => None,
-    }
+    let _value = read_value(kind, part.text.as_bytes())?;
+    Some(part)
 }
