@@ -38,14 +38,14 @@ pub(crate) fn text_in<'a>(field: Option<Part<'a>>) -> Option<Part<'a>>
 pub(crate) fn code_in(field: Option<Part<'_>>) -> Option<Code>
     ensures { result ≡ ruled code_of (option_map part_bytes field.entry) }
 {
-    Code::numbered(number_in(field, 3)?)
+    Code::try_from(number_in(field, 3)?).ok()
 }
 
 /// The type that the field names.
 pub(crate) fn kind_in(field: Option<Part<'_>>) -> Option<Kind>
     ensures { result ≡ ruled kind_named (option_map part_bytes field.entry) }
 {
-    Kind::named(field?.text)
+    field?.text.parse().ok()
 }
 
 /// The field, if it writes a value of the type.
