@@ -43,11 +43,6 @@ pub kept_if_some : {X Y : Type 0} (o : Option X) (y : Y) → option_map (λ _. y
 kept_if_some None y = refl
 kept_if_some (Some x) y = refl
 
--- a cursor that hands out the first of a list comes to its end
-pub progress : {S A B : Type 0} (view : A → B) (rest : S → List B) (s : S) (r : Option A) (t : S) → YieldsFirstBy view rest s r t → MakesProgress (λ _. Unit {0}) (item_count rest) s r t
-progress view rest s None t h = record { on = λ _. tt; keeps = tt; rests = λ _. tt }
-progress view rest s (Some x) t h = record { on = λ _. (tt, tt, omega (arith, ap length h)); keeps = tt; rests = λ _. tt }
-
 -- what holds anyway holds where a value is there
 pub on_ok : {X E P : Type 0} (r : Result X E) → P → OnOk r P
 on_ok (Ok x) p = p

@@ -6,7 +6,7 @@ ghost use Rattle.field.specs.Fields.{fields};
 ghost use Rattle.field.specs.Parts.{part_bytes, fields_left, Hands, Onward};
 ghost use Rattle.packet.specs.Rules.{then, with_ok, Keeps};
 ghost use Rattle.packet.specs.Groups.{groups};
-ghost use Rattle.packet.specs.Cursors.{groups_ahead};
+ghost use Rattle.packet.specs.Cursors.{groups_ahead, HandsOut};
 
 use field::fields::Fields;
 use field::part::Part;
@@ -95,16 +95,12 @@ impl<'a, G: Group<'a>> Groups<'a, G> {
 impl<'a, G: Group<'a>> Iterator for Groups<'a, G> {
     type Item = G::Item;
 
-    ghost next_gives = { YieldsFirstBy G.said (groups_ahead G.WIDTH G.group) };
+    ghost next_gives = { HandsOut G.said G.part (groups_ahead G.WIDTH G.group) };
 
     ghost remaining = { item_count (groups_ahead G.WIDTH G.group) };
 
     /// The next group.
-    fn next(&mut self) -> Option<G::Item>
-        ensures steps { YieldsFirstBy G.said (groups_ahead G.WIDTH G.group) self.old result self.new }
-        ensures place { Hands self.old.fields (then result G.part) }
-        ensures onward { Onward self.old.fields self.new.fields }
-    {
+    fn next(&mut self) -> Option<G::Item> {
         if self.left == 0 {
             return None;
         }
