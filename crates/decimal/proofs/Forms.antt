@@ -10,17 +10,11 @@ use Rattle.decimal.specs.Normal.{Normal, nought, is_zero, in_form}
 use Rattle.decimal.specs.Range.{inside, is_single, is_double, si_least, si_most, do_least, do_most, passing, within_of, single_of, double_of, at_most, is_end}
 use Rattle.decimal.specs.Spelling.{spelling}
 use Rattle.decimal.specs.Reading.{decimal_of}
+use Rattle.decimal.specs.Views.{real_of}
+use Rattle.decimal.specs.declared.ranged.Ranged.{Ranged}
 use Rattle.decimal.proofs.Backs.{real_reads_back}
 use Rattle.decimal.proofs.Plain.{spelling_textual}
 use Rattle.decimal.proofs.Sizes.{near}
-
-pub form_of : (d : Real) → Normal d → in_form d ≡ true
-form_of d n =
-    and_from _ _ (lt-ltb d.digits (10 ^ 18) n.short)
-    (elim (cases_eq (d.digits % 10) 0) [
-      | inl z ↦ cond-true _ _ _ (eq-eqb (d.digits % 10) 0 z) ∙ ap is_zero (n.last z)
-      | inr z ↦ cond-false _ _ _ (ne_eqb (d.digits % 10) 0 z)
-    ])
 
 at_zero : (z : ℤ) → le_z (pos 0) z ≡ true → le_z z (pos 0) ≡ true → z ≡ pos 0
 at_zero z a b = grind (arith, ints)
@@ -99,3 +93,13 @@ double_back d f i = spelled_back is_double d (kept_double d f i) i
 
 pub single_back : (d : Real) → in_form d ≡ true → is_single d ≡ true → single_of (spelling d) ≡ Some d
 single_back d f i = spelled_back is_single d (kept_single d f i) i
+
+-- what is known of a decimal in any reach, as Single and Decimal
+pub ranged_kept : {R B : _} (d : Ranged R B) → Kept (real_of d)
+ranged_kept {R} {B} d = kept B.LEAST B.MOST d.real.real B.least_fits B.most_fits d.real.normal d.within
+
+pub ranged_textual : {R B : _} (d : Ranged R B) → textual (spelling (real_of d)) ≡ true
+ranged_textual d = spelled_textual (real_of d) (ranged_kept d)
+
+pub ranged_back : {R B : _} (d : Ranged R B) → within_of B.LEAST B.MOST (spelling (real_of d)) ≡ Some (real_of d)
+ranged_back {R} {B} d = within_back B.LEAST B.MOST (real_of d) (ranged_kept d) d.within

@@ -1,7 +1,7 @@
 mod Gathers
 mod Reals
-mod Readings
+pub mod Readings
 mod Sizes
-mod Backs
+pub mod Backs
 mod Plain
 pub mod Forms

@@ -105,9 +105,6 @@ tens_parts : (m : ℕ) → (c : ℕ) × (m ≡ c * 10 ^ tens m)
 unfolding tens
 tens_parts m = tens_split 40 m
 
-pub zero_normal : Normal nought
-zero_normal = record { short = omega arith; last = λ _. refl; low = omega (arith, ints); high = omega (arith, ints) }
-
 pub normal_zero : (s : Bool) (m : ℕ) (x : ℤ) → m ≡ 0 → normal s m x ≡ Some (record { negative = false; digits = 0; exponent = pos 0 })
 normal_zero s m x e = cond-true _ _ _ (eq-eqb m 0 e)
 
@@ -147,31 +144,6 @@ difference_in z n a b l =
 pub together : (s : Bool) (whole fraction rest : List ℕ) (x : ℤ) → Some x ≡ power_read rest → at_power s whole fraction (power_read rest) ≡ normal s (digits_value_after 10 (digits_value_after 10 0 whole) fraction) (x -ℤ pos (length fraction))
 together s whole fraction rest x e =
     ap (at_power s whole fraction) (sym e) ∙ ap (λ m. normal s m (x -ℤ pos (length fraction))) (value_append whole fraction 0)
-
-pub power_minus : (rest : List ℕ) (o : Option ℕ) → 2 ≤ length rest → get_or rest 0 0 ≡ 69 → get_or rest 1 0 ≡ 45 → o ≡ power_digits (drop 2 rest) → option_map (λ n. neg_ℤ (pos n)) o ≡ power_read rest
-power_minus rest o l a b e =
-    ap (option_map (λ n. neg_ℤ (pos n))) e
-    ∙ sym (cond-false _ _ _ (ne_eqb (length rest) 0 (λ z. omega arith)) ∙ cond-true _ _ _ (eq-eqb _ _ a) ∙ cond-true _ _ _ (eq-eqb _ _ b))
-
-pub power_plus : (rest : List ℕ) (o : Option ℕ) → 2 ≤ length rest → get_or rest 0 0 ≡ 69 → get_or rest 1 0 ≡ 43 → o ≡ power_digits (drop 2 rest) → option_map (λ n. pos n) o ≡ power_read rest
-power_plus rest o l a b e =
-    ap (option_map (λ n. pos n)) (e ∙ ap power_digits (sym (cond-true _ _ _ (eq-eqb (get_or rest 1 0) 43 b))))
-    ∙ sym (cond-false _ _ _ (ne_eqb (length rest) 0 (λ z. omega arith)) ∙ cond-true _ _ _ (eq-eqb _ _ a) ∙ cond-false _ _ _ (ne_eqb (get_or rest 1 0) 45 (λ z. omega arith)))
-
-pub power_bare : (rest : List ℕ) (o : Option ℕ) → 1 ≤ length rest → get_or rest 0 0 ≡ 69 → (get_or rest 1 0 ≡ 45 → ⊥) → (get_or rest 1 0 ≡ 43 → ⊥) → o ≡ power_digits (drop 1 rest) → option_map (λ n. pos n) o ≡ power_read rest
-power_bare rest o l a b d e =
-    ap (option_map (λ n. pos n)) (e ∙ ap power_digits (sym (cond-false _ _ _ (ne_eqb (get_or rest 1 0) 43 d))))
-    ∙ sym (cond-false _ _ _ (ne_eqb (length rest) 0 (λ z. omega arith)) ∙ cond-true _ _ _ (eq-eqb _ _ a) ∙ cond-false _ _ _ (ne_eqb (get_or rest 1 0) 45 b))
-
-pub minus_in : (n : ℕ) → n < 1000 → to_z w16 (of_z w16 (pos 0 -ℤ to_z w16 n)) ≡ neg_ℤ (pos n)
-minus_in zero l = refl
-minus_in (suc n) l =
-    let g : suc n < 2 ^ hbits w16 = omega arith in
-    let h : SFits w16 (negsuc n) = fits16 (negsuc n) (omega (arith, ints)) (omega (arith, ints)) in
-    ap (λ y. to_z w16 (of_z w16 (pos 0 -ℤ y))) (to_z_pos w16 (suc n) g) ∙ ap (λ y. to_z w16 (of_z w16 y)) (+ℤ_idl (negsuc n)) ∙ to_z-of_z w16 (negsuc n) h
-
-pub plus_in : (n : ℕ) → n < 1000 → to_z w16 n ≡ pos n
-plus_in n l = to_z_pos w16 n (omega arith)
 
 pub power_some : (ds : List ℕ) → all_ascii_digits ds ≡ true → 0 < length ds → length ds < 4 → power_digits ds ≡ Some (digits_value 10 ds)
 power_some ds a b d = let t : (all_ascii_digits ds && (ltb 0 (length ds) && ltb (length ds) 4)) ≡ true = grind (arith, nat_tests) in cond-true _ _ _ t
