@@ -59,7 +59,7 @@ all_zeros : (k : ℕ) → all_ascii_digits (replicate k 48) ≡ true
 all_zeros zero = refl
 all_zeros (suc k) = all_zeros k
 
-all_append : (xs ys : List ℕ) → all_ascii_digits xs ≡ true → all_ascii_digits ys ≡ true → all_ascii_digits (xs ++ ys) ≡ true
+pub all_append : (xs ys : List ℕ) → all_ascii_digits xs ≡ true → all_ascii_digits ys ≡ true → all_ascii_digits (xs ++ ys) ≡ true
 all_append [] ys a b = b
 all_append (x ∷ xs) ys a b =
     let t : is_ascii_digit x ≡ true = grind (arith, nat_tests) in

@@ -1,25 +1,20 @@
 -- What a decimal keeps: its normal form, and a power of ten that its range bounds.
-use Rattle.std.proofs.Common.{◌≡◌, ◌%◌, ◌^◌, ◌<◌, Bool, true, not, eqb, ltb, ◌⊎◌, ℤ, pos, negsuc, ◌+ℤ◌, ◌≤ℤ◌, Some, sym, ap, ◌∙◌, subst, inl, inr, arith}
+use Rattle.std.proofs.Common.{◌≡◌, ◌%◌, ◌^◌, ◌<◌, Bool, true, not, eqb, ltb, ◌⊎◌, ℤ, pos, negsuc, ◌+ℤ◌, ◌≤ℤ◌, Some, sym, refl, ap, ◌∙◌, subst, inl, inr, arith}
 use lib.Signed.{le_z}
 use Rattle.std.proofs.lemmas.Int.{ints}
 use Rattle.std.proofs.lemmas.Bool.{cases_eq, and_from, and_parts, or_cases, cond-true, cond-false, eqb-true, eq-eqb, ne_eqb, ltb-true, lt-ltb, not-true}
+use Rattle.std.proofs.lemmas.Bool.Decides.{nat_tests}
 use Rattle.protocol.specs.Texts.{textual}
 use Rattle.decimal.specs.declared.real.Real.{Real}
 use Rattle.decimal.specs.Normal.{Normal, nought, is_zero, in_form}
-use Rattle.decimal.specs.Range.{inside, is_single, is_double, si_least, si_most, do_least, do_most, passing, single_of, double_of, at_most}
+use Rattle.decimal.specs.Range.{inside, is_single, is_double, si_least, si_most, do_least, do_most, passing, within_of, single_of, double_of, at_most, is_end}
 use Rattle.decimal.specs.Spelling.{spelling}
 use Rattle.decimal.specs.Reading.{decimal_of}
+use Rattle.decimal.specs.Views.{real_of}
+use Rattle.decimal.specs.declared.ranged.Ranged.{Ranged}
 use Rattle.decimal.proofs.Backs.{real_reads_back}
 use Rattle.decimal.proofs.Plain.{spelling_textual}
-use Rattle.decimal.proofs.Ranges.{near}
-
-pub form_of : (d : Real) → Normal d → in_form d ≡ true
-form_of d n =
-    and_from _ _ (lt-ltb d.digits (10 ^ 18) n.short)
-    (elim (cases_eq (d.digits % 10) 0) [
-      | inl z ↦ cond-true _ _ _ (eq-eqb (d.digits % 10) 0 z) ∙ ap is_zero (n.last z)
-      | inr z ↦ cond-false _ _ _ (ne_eqb (d.digits % 10) 0 z)
-    ])
+use Rattle.decimal.proofs.Sizes.{near}
 
 at_zero : (z : ℤ) → le_z (pos 0) z ≡ true → le_z z (pos 0) ≡ true → z ≡ pos 0
 at_zero z a b = grind (arith, ints)
@@ -63,25 +58,25 @@ pub record Kept (d : Real) : Type 0 where
   pub low : negsuc 399 ≤ℤ d.exponent
   pub high : d.exponent ≤ℤ pos 400
 
-kept_by : (d : Real) → in_form d ≡ true → negsuc 399 ≤ℤ d.exponent → d.exponent ≤ℤ pos 400 → Kept d
+pub kept_by : (d : Real) → in_form d ≡ true → negsuc 399 ≤ℤ d.exponent → d.exponent ≤ℤ pos 400 → Kept d
 kept_by d f a b = record { normal = record { short = short_digits d f; last = last_digit d f; low = omega (arith, ints); high = omega (arith, ints) }; low = a; high = b }
 
 kept_nought : (d : Real) → in_form d ≡ true → d ≡ nought → Kept d
 kept_nought d f e = kept_by d f (subst (λ x. negsuc 399 ≤ℤ x.exponent) (sym e) (omega (arith, ints))) (subst (λ x. x.exponent ≤ℤ pos 400) (sym e) (omega (arith, ints)))
 
-pub kept_double : (d : Real) → in_form d ≡ true → is_double d ≡ true → Kept d
-kept_double d f i =
-    elim (bounded do_least do_most d (omega arith) (omega arith) f i) [
+-- a decimal in a reach
+pub kept : (least most d : Real) → is_end least ≡ true → is_end most ≡ true → in_form d ≡ true → inside least most d ≡ true → Kept d
+kept least most d a b f i =
+    elim (bounded least most d (grind (arith, nat_tests, a)) (grind (arith, nat_tests, b)) f i) [
       | inl e ↦ kept_nought d f e
-      | inr b ↦ kept_by d f (omega (arith, ints, b.0)) (omega (arith, ints, b.1))
+      | inr r ↦ kept_by d f (grind (arith, ints, nat_tests, a, r.0)) (grind (arith, ints, nat_tests, b, r.1))
     ]
 
+pub kept_double : (d : Real) → in_form d ≡ true → is_double d ≡ true → Kept d
+kept_double d f i = kept do_least do_most d refl refl f i
+
 pub kept_single : (d : Real) → in_form d ≡ true → is_single d ≡ true → Kept d
-kept_single d f i =
-    elim (bounded si_least si_most d (omega arith) (omega arith) f i) [
-      | inl e ↦ kept_nought d f e
-      | inr b ↦ kept_by d f (omega (arith, ints, b.0)) (omega (arith, ints, b.1))
-    ]
+kept_single d f i = kept si_least si_most d refl refl f i
 
 pub spelled_textual : (d : Real) → Kept d → textual (spelling d) ≡ true
 spelled_textual d k = spelling_textual d k.normal k.low k.high
@@ -90,8 +85,21 @@ spelled_back : (test : Real → Bool) (d : Real) → Kept d → test d ≡ true 
 spelled_back test d k t = ap (passing test) (real_reads_back d k.normal k.low k.high) ∙ cond-true _ _ _ t
 
 -- a decimal's spelling reads back as the decimal
+pub within_back : (least most d : Real) → Kept d → inside least most d ≡ true → within_of least most (spelling d) ≡ Some d
+within_back least most d k i = spelled_back (inside least most) d k i
+
 pub double_back : (d : Real) → in_form d ≡ true → is_double d ≡ true → double_of (spelling d) ≡ Some d
 double_back d f i = spelled_back is_double d (kept_double d f i) i
 
 pub single_back : (d : Real) → in_form d ≡ true → is_single d ≡ true → single_of (spelling d) ≡ Some d
 single_back d f i = spelled_back is_single d (kept_single d f i) i
+
+-- what is known of a decimal in any reach, as Single and Decimal
+pub ranged_kept : {R B : _} (d : Ranged R B) → Kept (real_of d)
+ranged_kept {R} {B} d = kept B.LEAST B.MOST d.real.real B.least_fits B.most_fits d.real.normal d.within
+
+pub ranged_textual : {R B : _} (d : Ranged R B) → textual (spelling (real_of d)) ≡ true
+ranged_textual d = spelled_textual (real_of d) (ranged_kept d)
+
+pub ranged_back : {R B : _} (d : Ranged R B) → within_of B.LEAST B.MOST (spelling (real_of d)) ≡ Some (real_of d)
+ranged_back {R} {B} d = within_back B.LEAST B.MOST (real_of d) (ranged_kept d) d.within

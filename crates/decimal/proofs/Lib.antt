@@ -1,8 +1,7 @@
 mod Gathers
-mod Lines
 mod Reals
-mod Readings
-mod Ranges
-mod Backs
+pub mod Readings
+mod Sizes
+pub mod Backs
 mod Plain
 pub mod Forms

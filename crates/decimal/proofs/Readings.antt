@@ -1,20 +1,30 @@
 -- The parts of a text that are read as a real.
-use Rattle.std.proofs.Common.{◌≡◌, ℕ, zero, suc, ◌+◌, ◌*◌, ◌/◌, ◌%◌, ◌^◌, ◌<◌, ◌≤◌, Bool, true, false, cond, ◌&&◌, eqb, ltb, List, [], ◌∷◌, ◌++◌, length, get_or, take, drop, ℤ, pos, negsuc, ◌+ℤ◌, ◌-ℤ◌, neg_ℤ, ◌≤ℤ◌, Some, None, Option, sym, refl, ap, ◌∙◌, inl, inr, mul_assoc, pow-suc, mul-div_cancel, add-one, arith, w16, SFits, to_z, of_z}
+use Rattle.std.proofs.Common.{◌≡◌, ℕ, zero, suc, ◌+◌, ◌*◌, ◌/◌, ◌%◌, ◌^◌, ◌<◌, ◌≤◌, Bool, true, false, cond, ◌&&◌, eqb, ltb, List, [], ◌∷◌, ◌++◌, length, get_or, take, drop, ℤ, pos, negsuc, ◌+ℤ◌, ◌-ℤ◌, neg_ℤ, ◌≤ℤ◌, IfSome, Some, None, Ok, Err, IsSome, IsOk, MatchResult, Option, Result, ◌⊎◌, sym, refl, ap, ◌∙◌, inl, inr, mul_assoc, pow-suc, mul-div_cancel, add-one, one-add, arith, w16, SFits, to_z, of_z}
 use native.Mathlib.Nat.{one-le-pow, zero-div}
 use lib.IntN.{+ℤ_idl}
 use mir.Val.{hbits}
+use Rattle.std.specs.List.{prefix_len}
 use Rattle.std.specs.Option.{option_map}
-use Rattle.std.specs.Str.Parse.{digits_value, digits_value_after}
+use Rattle.std.specs.Result.{result_ok}
+use Rattle.std.specs.Str.Parse.{digits_value, digits_value_after, ParsesSigned}
+use Rattle.std.proofs.lemmas.Str.Parse.{parse_signed_digits, digits_value_short}
+use Rattle.protocol.proofs.Digits.{own}
 use Rattle.std.specs.Char.{is_ascii_digit, digit_value}
 use Rattle.std.specs.Str.{all_ascii_digits}
 use Rattle.std.proofs.lemmas.List.{at_drop_more}
 use Rattle.std.proofs.lemmas.Int.{ints, to_z-of_z, to_z_pos}
-use Rattle.std.proofs.lemmas.Bool.{cases_Bool, cond-true, cond-false, eq-eqb, ne_eqb, eqb-true, lt-ltb, le-ltb}
+use Rattle.std.proofs.lemmas.Bool.{cases_Bool, cases_lt, cond-true, cond-false, eq-eqb, ne_eqb, eqb-true, lt-ltb, le-ltb}
 use Rattle.std.proofs.lemmas.Bool.Decides.{nat_tests}
 use Rattle.decimal.specs.Gather.{TooLong}
 use Rattle.decimal.specs.Normal.{Normal, nought}
 use Rattle.decimal.specs.Reading.{run_of, tens_of, tens, normal, at_power, power_read, power_digits}
+use Rattle.decimal.proofs.Gathers.{shift}
 use Rattle.decimal.proofs.Reals.{fits16}
+
+-- what a chain counts
+pub run_is : (ds : List ℕ) → prefix_len is_ascii_digit ds ≡ run_of ds
+run_is [] = refl
+run_is (c ∷ cs) = rw (run_is cs, one-add) refl
 
 pub run_le : (ds : List ℕ) → run_of ds ≤ length ds
 run_le [] = omega arith
@@ -57,18 +67,9 @@ run_digits (c ∷ cs) =
           rw e refl
     ]
 
-pub run_step : (ds : List ℕ) (i : ℕ) → i < length ds → is_ascii_digit (get_or ds i 0) ≡ true → run_of (drop i ds) ≡ suc (run_of (drop (i + 1) ds))
-run_step ds i l t = at_drop_more run_of ds i 0 l ∙ cond-true (is_ascii_digit (get_or ds i 0)) (suc (run_of (drop (i + 1) ds))) 0 t
-
-pub run_stop : (ds : List ℕ) (i : ℕ) → i < length ds → is_ascii_digit (get_or ds i 0) ≡ false → run_of (drop i ds) ≡ 0
-run_stop ds i l t = at_drop_more run_of ds i 0 l ∙ cond-false (is_ascii_digit (get_or ds i 0)) (suc (run_of (drop (i + 1) ds))) 0 t
-
 pub value_append : (xs ys : List ℕ) (m : ℕ) → digits_value_after 10 m (xs ++ ys) ≡ digits_value_after 10 (digits_value_after 10 m xs) ys
 value_append [] ys m = refl
 value_append (x ∷ xs) ys m = value_append xs ys (m * 10 + digit_value x)
-
-shift : (c t : ℕ) → c * 10 ^ suc t ≡ c * 10 ^ t * 10
-shift c t = ap (λ x. c * x) (pow-suc 10 t) ∙ sym (mul_assoc c (10 ^ t) 10)
 
 tens_is : (k d z : ℕ) → z ≤ k → (d % 10 ≡ 0 → ⊥) → tens_of k (d * 10 ^ z) ≡ z
 tens_is zero d zero h n = refl
@@ -104,9 +105,6 @@ tens_parts : (m : ℕ) → (c : ℕ) × (m ≡ c * 10 ^ tens m)
 unfolding tens
 tens_parts m = tens_split 40 m
 
-pub zero_normal : Normal nought
-zero_normal = record { short = omega arith; last = λ _. refl; low = omega (arith, ints); high = omega (arith, ints) }
-
 pub normal_zero : (s : Bool) (m : ℕ) (x : ℤ) → m ≡ 0 → normal s m x ≡ Some (record { negative = false; digits = 0; exponent = pos 0 })
 normal_zero s m x e = cond-true _ _ _ (eq-eqb m 0 e)
 
@@ -129,12 +127,12 @@ normal_long s m x l =
     let o : m ≡ 0 → ⊥ = λ e. omega (arith, l 0 0 (omega arith)) in
     cond-false _ _ _ (ne_eqb m 0 o) ∙ cond-false _ _ _ (le-ltb (m / 10 ^ tens m) (10 ^ 18) (rw q b))
 
-pub sum_in : (z : ℤ) (n : ℕ) → negsuc 1998 ≤ℤ z → z ≤ℤ pos 1999 → n ≤ 99 → to_z w16 (of_z w16 (to_z w16 (of_z w16 z) +ℤ to_z w16 n)) ≡ z +ℤ pos n
-sum_in z n a b l =
+pub sum_in : (z y : ℤ) → negsuc 1998 ≤ℤ z → z ≤ℤ pos 1999 → negsuc 99 ≤ℤ y → y ≤ℤ pos 99 → to_z w16 (of_z w16 (to_z w16 (of_z w16 z) +ℤ to_z w16 (of_z w16 y))) ≡ z +ℤ y
+sum_in z y a b d e =
     let f : SFits w16 z = fits16 z (omega (arith, ints)) (omega (arith, ints)) in
-    let g : n < 2 ^ hbits w16 = omega arith in
-    let h : SFits w16 (z +ℤ pos n) = fits16 (z +ℤ pos n) (omega (arith, ints)) (omega (arith, ints)) in
-    simp (to_z-of_z, to_z_pos) refl
+    let g : SFits w16 y = fits16 y (omega (arith, ints)) (omega (arith, ints)) in
+    let h : SFits w16 (z +ℤ y) = fits16 (z +ℤ y) (omega (arith, ints)) (omega (arith, ints)) in
+    simp to_z-of_z refl
 
 pub difference_in : (z : ℤ) (n : ℕ) → negsuc 1998 ≤ℤ z → z ≤ℤ pos 1999 → n ≤ 99 → to_z w16 (of_z w16 (to_z w16 (of_z w16 z) -ℤ to_z w16 n)) ≡ z -ℤ pos n
 difference_in z n a b l =
@@ -147,36 +145,44 @@ pub together : (s : Bool) (whole fraction rest : List ℕ) (x : ℤ) → Some x 
 together s whole fraction rest x e =
     ap (at_power s whole fraction) (sym e) ∙ ap (λ m. normal s m (x -ℤ pos (length fraction))) (value_append whole fraction 0)
 
-pub power_minus : (rest : List ℕ) (o : Option ℕ) → 2 ≤ length rest → get_or rest 0 0 ≡ 69 → get_or rest 1 0 ≡ 45 → o ≡ power_digits (drop 2 rest) → option_map (λ n. neg_ℤ (pos n)) o ≡ power_read rest
-power_minus rest o l a b e =
-    ap (option_map (λ n. neg_ℤ (pos n))) e
-    ∙ sym (cond-false _ _ _ (ne_eqb (length rest) 0 (λ z. omega arith)) ∙ cond-true _ _ _ (eq-eqb _ _ a) ∙ cond-true _ _ _ (eq-eqb _ _ b))
-
-pub power_plus : (rest : List ℕ) (o : Option ℕ) → 2 ≤ length rest → get_or rest 0 0 ≡ 69 → get_or rest 1 0 ≡ 43 → o ≡ power_digits (drop 2 rest) → option_map (λ n. pos n) o ≡ power_read rest
-power_plus rest o l a b e =
-    ap (option_map (λ n. pos n)) (e ∙ ap power_digits (sym (cond-true _ _ _ (eq-eqb (get_or rest 1 0) 43 b))))
-    ∙ sym (cond-false _ _ _ (ne_eqb (length rest) 0 (λ z. omega arith)) ∙ cond-true _ _ _ (eq-eqb _ _ a) ∙ cond-false _ _ _ (ne_eqb (get_or rest 1 0) 45 (λ z. omega arith)))
-
-pub power_bare : (rest : List ℕ) (o : Option ℕ) → 1 ≤ length rest → get_or rest 0 0 ≡ 69 → (get_or rest 1 0 ≡ 45 → ⊥) → (get_or rest 1 0 ≡ 43 → ⊥) → o ≡ power_digits (drop 1 rest) → option_map (λ n. pos n) o ≡ power_read rest
-power_bare rest o l a b d e =
-    ap (option_map (λ n. pos n)) (e ∙ ap power_digits (sym (cond-false _ _ _ (ne_eqb (get_or rest 1 0) 43 d))))
-    ∙ sym (cond-false _ _ _ (ne_eqb (length rest) 0 (λ z. omega arith)) ∙ cond-true _ _ _ (eq-eqb _ _ a) ∙ cond-false _ _ _ (ne_eqb (get_or rest 1 0) 45 b))
-
-pub minus_in : (n : ℕ) → n < 1000 → to_z w16 (of_z w16 (pos 0 -ℤ to_z w16 n)) ≡ neg_ℤ (pos n)
-minus_in zero l = refl
-minus_in (suc n) l =
-    let g : suc n < 2 ^ hbits w16 = omega arith in
-    let h : SFits w16 (negsuc n) = fits16 (negsuc n) (omega (arith, ints)) (omega (arith, ints)) in
-    ap (λ y. to_z w16 (of_z w16 (pos 0 -ℤ y))) (to_z_pos w16 (suc n) g) ∙ ap (λ y. to_z w16 (of_z w16 y)) (+ℤ_idl (negsuc n)) ∙ to_z-of_z w16 (negsuc n) h
-
-pub plus_in : (n : ℕ) → n < 1000 → to_z w16 n ≡ pos n
-plus_in n l = to_z_pos w16 n (omega arith)
-
 pub power_some : (ds : List ℕ) → all_ascii_digits ds ≡ true → 0 < length ds → length ds < 4 → power_digits ds ≡ Some (digits_value 10 ds)
 power_some ds a b d = let t : (all_ascii_digits ds && (ltb 0 (length ds) && ltb (length ds) 4)) ≡ true = grind (arith, nat_tests) in cond-true _ _ _ t
 
 pub power_none : (ds : List ℕ) → (all_ascii_digits ds && (ltb 0 (length ds) && ltb (length ds) 4)) ≡ false → power_digits ds ≡ None
 power_none ds t = cond-false _ _ _ t
 
-pub digit_more : (n d i : ℕ) → n < 10 ^ i → d < 10 → n * 10 + d < 10 ^ (i + 1)
-digit_more n d i l m = let e : 10 ^ (i + 1) ≡ 10 ^ i * 10 = ap (λ x. 10 ^ x) (add-one i) ∙ pow-suc 10 i in omega arith
+-- of a power's digits: not all digits, or more than three
+pub power_unread : (ds : List ℕ) → (run_of ds < length ds) ⊎ (3 < length ds) → power_digits ds ≡ None
+power_unread ds (inl l) = let n = not_all ds l in power_none ds (grind (arith, nat_tests))
+power_unread ds (inr l) = power_none ds (grind (arith, nat_tests))
+
+pub power_parsed : {E : Type 0} (ds : List ℕ) (r : Result ℤ E) → ParsesSigned w16 10 ds r → all_ascii_digits ds ≡ true → length ds < 4 → result_ok r ≡ option_map (λ n. pos n) (power_digits ds)
+power_parsed {E} ds (Ok z) h a l =
+    let k = parse_signed_digits own {E = E} w16 ds (Ok z) h a in
+    ap Some k.1 ∙ sym (ap (option_map (λ n. pos n)) (power_some ds a k.0.0 l))
+power_parsed {E} ds (Err e) h a l =
+    let k = parse_signed_digits own {E = E} w16 ds (Err e) h a in
+    let b : digits_value 10 ds < 10 ^ 3 = digits_value_short own ds 3 a (omega arith) in
+    elim (cases_lt 0 (length ds)) [
+      | inl o ↦ absurd (k (o, omega arith))
+      | inr o ↦ sym (ap (option_map (λ n. pos n)) (power_none ds (grind (arith, nat_tests))))
+    ]
+
+pub power_bound : (ds : List ℕ) → IfSome (option_map (λ n. pos n) (power_digits ds)) (λ z. (pos 0 ≤ℤ z) × (z ≤ℤ pos 999))
+power_bound ds =
+    elim (cases_Bool (all_ascii_digits ds && (ltb 0 (length ds) && ltb (length ds) 4))) [
+      | inl t ↦
+          let a : all_ascii_digits ds ≡ true = grind (arith, nat_tests) in
+          let b : digits_value 10 ds < 10 ^ 3 = digits_value_short own ds 3 a (grind (arith, nat_tests)) in
+          rw (power_some ds a (grind (arith, nat_tests)) (grind (arith, nat_tests))) (omega (arith, ints), omega (arith, ints))
+      | inr t ↦ rw (power_none ds t) tt
+    ]
+
+-- of a call's result
+pub told_ok : {T E : Type 0} (r : Result T E) (P : T → Type 0) (Q : E → Type 0) → MatchResult r P Q → ((e : E) → Q e → ⊥) → IsOk r
+told_ok (Ok x) P Q m n = refl
+told_ok (Err e) P Q m n = absurd (n e m)
+
+pub some_made : {A B : Type 0} (f : A → B) (o : Option A) (y : B) → option_map f o ≡ Some y → IsSome o
+some_made f None y e = let z : ◌≡◌ {A = ℕ} 0 1 = cc in absurd (omega arith)
+some_made f (Some x) y e = refl

@@ -4,4 +4,3 @@ pub mod Spelling
 pub mod Normal
 pub mod Range
 pub mod Views
-pub mod Line

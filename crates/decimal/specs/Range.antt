@@ -1,5 +1,5 @@
 -- The ranges of the two types of reals.
-use Rattle.std.specs.Prelude.{ℕ, ◌*◌, ◌^◌, Bool, false, cond, ◌&&◌, ◌||◌, List, ℤ, pos, negsuc, ◌-ℤ◌, Some, None, Option, ◌==◌, nat_le}
+use Rattle.std.specs.Prelude.{ℕ, ◌*◌, ◌^◌, Bool, false, cond, ◌&&◌, ◌||◌, List, ℤ, pos, negsuc, ◌+ℤ◌, ◌-ℤ◌, Some, None, Option, unsigned_abs, ◌==◌, nat_le, nat_lt, int_le}
 use Rattle.decimal.specs.declared.real.Real.{Real}
 use Rattle.decimal.specs.Reading.{decimal_of}
 
@@ -15,6 +15,14 @@ at_most a b = nat_le (a.digits * 10 ^ above (a.exponent -ℤ b.exponent)) (b.dig
 -- zero, or of a size from that of the least to that of the most
 abbrev pub inside : Real → Real → Real → Bool
 inside least most d = d.digits == 0 || (at_most least d && at_most d most)
+
+-- the size of a real whose power of ten is above -1200, times 10 to the power 1200
+unfoldable pub size_of : Real → ℕ
+size_of d = d.digits * 10 ^ unsigned_abs (d.exponent +ℤ pos 1200)
+
+-- a size that a reach may begin or end with: not zero, at most 18 digits, and a power of ten that is not far from 0
+abbrev pub is_end : Real → Bool
+is_end d = (nat_lt 0 d.digits && nat_lt d.digits (10 ^ 18)) && (int_le (negsuc 381) d.exponent && int_le d.exponent (pos 382))
 
 -- 1.401298E-45 and 3.4028235E+38
 abbrev pub si_least : Real
@@ -41,7 +49,10 @@ abbrev pub passing : (Real → Bool) → Option Real → Option Real
 passing test None = None
 passing test (Some d) = cond (test d) (Some d) None
 
--- what a text reads as: as Si, and as Do
+-- what a text reads as: in a reach, as Si, and as Do
+abbrev pub within_of : Real → Real → List ℕ → Option Real
+within_of least most bs = passing (inside least most) (decimal_of bs)
+
 abbrev pub single_of : List ℕ → Option Real
 single_of bs = passing is_single (decimal_of bs)
 

@@ -1,27 +1,22 @@
-//! The ranges of Si and Do.
+//! Whether a real lies in a reach.
 ghost use Rattle.std.specs.Prelude.{◌≡◌, ℕ, ◌+◌, ◌*◌, ◌^◌, ◌<◌, ◌≤◌, pos, negsuc, ◌≤ℤ◌};
-ghost use Rattle.decimal.specs.Normal.{Normal};
-ghost use Rattle.decimal.specs.Range.{at_most, inside, is_single, is_double};
+ghost use Rattle.decimal.specs.Range.{at_most, inside, size_of};
 
+use crate::normal::NormalReal;
+use crate::reach::Reach;
 use crate::real::Real;
 
-/// The least number of 18 digits.
-const FULL: u64 = 100_000_000_000_000_000;
-
-/// The same number with 18 digits, and a lower power of ten.
-fn aligned(digits: u64, power: u16) -> (u64, u16)
-    requires digits { (0 < digits) × (digits < 10 ^ 18) }
-    requires room { 18 ≤ power }
-    ensures same { result.0 * 10 ^ result.1 ≡ digits * 10 ^ power }
-    ensures full { (10 ^ 17 ≤ result.0) × (result.0 < 10 ^ 18) }
+/// The size of a real that is not zero, as 18 digits times a power of ten. The power is counted from -1200,
+/// and stands in front, so that sizes compare as these pairs do.
+fn aligned(d: Real) -> (u16, u64)
+    requires digits { (0 < d.digits) × (d.digits < 10 ^ 18) }
+    requires bounds { (negsuc 1099 ≤ℤ d.exponent) × (d.exponent ≤ℤ pos 1100) }
+    ensures same { size_of d ≡ result.1 * 10 ^ result.0 }
+    ensures full { (10 ^ 17 ≤ result.1) × (result.1 < 10 ^ 18) }
 {
-    let mut front = digits;
-    let mut place = power;
-    while front < FULL {
-        front *= 10;
-        place -= 1;
-    }
-    (front, place)
+    let missing = 17 - d.digits.ilog10();
+    let place = (d.exponent + 1200) as u16 - missing as u16;
+    (place, d.digits * 10u64.pow(missing))
 }
 
 /// Whether one size is at most another, of two reals that are not zero.
@@ -32,49 +27,12 @@ fn at_most(a: Real, b: Real) -> bool
     requires b_bounds { (negsuc 1099 ≤ℤ b.exponent) × (b.exponent ≤ℤ pos 1100) }
     ensures { result ≡ at_most a b }
 {
-    let (x, p) = aligned(a.digits, (a.exponent + 1200) as u16);
-    let (y, q) = aligned(b.digits, (b.exponent + 1200) as u16);
-    p < q || (p == q && x <= y)
+    aligned(a) <= aligned(b)
 }
 
-/// The least and the greatest size of a Si.
-const SI_LEAST: Real = Real {
-    negative: false,
-    digits: 1401298,
-    exponent: -51,
-};
-
-const SI_MOST: Real = Real {
-    negative: false,
-    digits: 34028235,
-    exponent: 31,
-};
-
-/// The least and the greatest size of a Do.
-const DO_LEAST: Real = Real {
-    negative: false,
-    digits: 494065645841246544,
-    exponent: -341,
-};
-
-const DO_MOST: Real = Real {
-    negative: false,
-    digits: 17976931348623157,
-    exponent: 292,
-};
-
-/// Whether a real is a Si.
-pub(crate) fn is_single(d: Real) -> bool
-    requires { Normal d }
-    ensures { result ≡ is_single d }
+/// Whether a real is zero, or has a size in the reach.
+pub(crate) fn is_within<R: Reach>(d: NormalReal) -> bool
+    ensures { result ≡ inside R.LEAST R.MOST d.real }
 {
-    d.digits == 0 || (at_most(SI_LEAST, d) && at_most(d, SI_MOST))
-}
-
-/// Whether a real is a Do.
-pub(crate) fn is_double(d: Real) -> bool
-    requires { Normal d }
-    ensures { result ≡ is_double d }
-{
-    d.digits == 0 || (at_most(DO_LEAST, d) && at_most(d, DO_MOST))
+    d.real.digits == 0 || (at_most(R::LEAST, d.real) && at_most(d.real, R::MOST))
 }

@@ -1,7 +1,7 @@
 //! Reals as a sign, a whole number and a power of ten.
 
 /// The number `digits` × 10^`exponent`, below zero if `negative`.
-#[derive(Clone, Copy)]
+#[derive(Clone, Copy, Debug, PartialEq, Eq)]
 pub struct Real {
     pub negative: bool,
     pub digits: u64,

@@ -1,41 +1,47 @@
 //! Scanning a text for a real.
-ghost use Rattle.std.specs.Prelude.{◌≡◌, ℕ, ◌+◌, ◌*◌, ◌^◌, ◌<◌, ◌≤◌, true, length, take, pos, negsuc, ◌≤ℤ◌, IfSome, Some};
+ghost use Rattle.std.specs.Prelude.{◌≡◌, ℕ, ◌+◌, ◌*◌, ◌^◌, ◌<◌, ◌≤◌, true, length, take, drop, pos, negsuc, ◌≤ℤ◌, IfSome, Some};
 ghost use Rattle.std.specs.Option.{option_map};
-ghost use Rattle.std.specs.Str.{all_ascii_digits};
-ghost use Rattle.decimal.specs.Gather.{amount, Clean};
-ghost use Rattle.decimal.specs.Normal.{Normal};
+ghost use Rattle.protocol.specs.Held.{text_bytes};
+ghost use Rattle.decimal.specs.Gather.{amount};
 ghost use Rattle.decimal.specs.Reading.{run_of, power_digits, power_read, normal, at_power, at_point, at_whole, unsigned_of, decimal_of};
+ghost use Rattle.decimal.specs.Views.{normal_real};
 
-use crate::gather::{Coefficient, gather};
+use crate::coefficient::Coefficient;
+use crate::digits::Digits;
+use crate::normal::NormalReal;
 use crate::real::Real;
+use protocol::text::Text;
+use std::str::from_utf8;
 
-/// How many digits the text begins with.
-fn run(text: &[u8]) -> usize
-    ensures value { result ≡ run_of text.now }
-    ensures bound { result ≤ length text.now }
-    ensures digits { all_ascii_digits (take result text.now) ≡ true }
-{
-    for (i, b) in text.iter().enumerate() {
-        if !b.is_ascii_digit() {
-            return i;
-        }
+impl<'a> Digits<'a> {
+    /// The digits that the text begins with, and what stands behind them.
+    fn split(text: &'a [u8]) -> (Digits<'a>, &'a [u8])
+        ensures digits { result.0.bytes.now ≡ take (run_of text.now) text.now }
+        ensures rest { result.1.now ≡ drop (run_of text.now) text.now }
+    {
+        let count = text.iter().take_while(|b| b.is_ascii_digit()).count();
+        let (bytes, rest) = text.split_at(count);
+        (Digits { bytes }, rest)
     }
-    text.len()
+
+    /// The digits as characters.
+    fn as_str(self) -> &'a str
+        ensures { result.now ≡ self.entry.bytes.now }
+    {
+        from_utf8(self.bytes).unwrap()
+    }
 }
 
 /// A size of a power of ten: one to three digits.
-fn power_digits(text: &[u8]) -> Option<u16>
-    ensures value { result ≡ power_digits text.now }
-    ensures bound { IfSome result (λ n. n < 1000) }
+fn power_digits(text: &[u8]) -> Option<i16>
+    ensures value { result ≡ option_map (λ n. pos n) (power_digits text.now) }
+    ensures bound { IfSome result (λ z. (pos 0 ≤ℤ z) × (z ≤ℤ pos 999)) }
 {
-    if text.is_empty() || text.len() > 3 || run(text) < text.len() {
+    let (digits, rest) = Digits::split(text);
+    if !rest.is_empty() || text.len() > 3 {
         return None;
     }
-    let mut n = 0u16;
-    for b in text {
-        n = n * 10 + u16::from(*b - b'0');
-    }
-    Some(n)
+    digits.as_str().parse::<i16>().ok()
 }
 
 /// What stands behind the digits: nothing, or E and a power of ten.
@@ -45,91 +51,87 @@ fn read_power(rest: &[u8]) -> Option<i16>
 {
     match rest {
         [] => Some(0),
-        [b'E', b'-', digits @ ..] => Some(-(power_digits(digits)? as i16)),
-        [b'E', b'+', digits @ ..] => Some(power_digits(digits)? as i16),
-        [b'E', digits @ ..] => Some(power_digits(digits)? as i16),
+        [b'E', b'-', digits @ ..] => Some(-power_digits(digits)?),
+        [b'E', b'+', digits @ ..] => power_digits(digits),
+        [b'E', digits @ ..] => power_digits(digits),
         _ => None,
     }
 }
 
 /// A coefficient times a power of ten, in the normal form.
-fn settle(negative: bool, c: Coefficient, power: i16) -> Real
-    requires clean { Clean c }
+fn settle(negative: bool, c: Coefficient, power: i16) -> NormalReal
     requires room { c.zeros ≤ 40 }
     requires bounds { (negsuc 1038 ≤ℤ power) × (power ≤ℤ pos 999) }
-    ensures value { normal negative (amount c) power ≡ Some result }
-    ensures normal { Normal result }
+    ensures { normal negative (amount c) power ≡ Some (normal_real result) }
 {
-    if c.digits == 0 {
-        return Real {
+    let real = if c.digits == 0 {
+        Real {
             negative: false,
             digits: 0,
             exponent: 0,
-        };
-    }
-    Real {
-        negative,
-        digits: c.digits,
-        exponent: power + c.zeros as i16,
-    }
+        }
+    } else {
+        Real {
+            negative,
+            digits: c.digits,
+            exponent: power + i16::from(c.zeros),
+        }
+    };
+    NormalReal { real }
 }
 
-/// The decimal of the digits in front of and behind the point, and of the power that follows them.
-fn put_together(negative: bool, whole: &[u8], fraction: &[u8], rest: &[u8]) -> Option<Real>
-    requires digits { (all_ascii_digits whole.now ≡ true) × (all_ascii_digits fraction.now ≡ true) }
-    requires short { length whole.now + length fraction.now ≤ 40 }
-    ensures value { result ≡ at_power negative whole.now fraction.now (power_read rest.now) }
-    ensures normal { IfSome result Normal }
+/// The real of the digits in front of and behind the point, and of the power that follows them.
+fn put_together(
+    negative: bool,
+    whole: Digits<'_>,
+    fraction: Digits<'_>,
+    rest: &[u8],
+) -> Option<NormalReal>
+    requires { length whole.bytes.now + length fraction.bytes.now ≤ 40 }
+    ensures { option_map normal_real result ≡ at_power negative whole.entry.bytes.now fraction.entry.bytes.now (power_read rest.now) }
 {
     let power = read_power(rest)?;
-    let front = gather(
-        Coefficient {
-            digits: 0,
-            zeros: 0,
-        },
-        whole,
-    )?;
-    let all = gather(front, fraction)?;
-    Some(settle(negative, all, power - fraction.len() as i16))
+    let nothing = Coefficient {
+        digits: 0,
+        zeros: 0,
+    };
+    let all = nothing.append(whole)?.append(fraction)?;
+    Some(settle(negative, all, power - fraction.bytes.len() as i16))
 }
 
 /// The same, with the text behind the point.
-fn read_behind(negative: bool, whole: &[u8], behind: &[u8]) -> Option<Real>
-    requires digits { all_ascii_digits whole.now ≡ true }
-    requires short { length whole.now + length behind.now ≤ 40 }
-    ensures value { result ≡ at_point negative whole.now behind.now }
-    ensures normal { IfSome result Normal }
+fn read_behind(negative: bool, whole: Digits<'_>, behind: &[u8]) -> Option<NormalReal>
+    requires { length whole.bytes.now + length behind.now ≤ 40 }
+    ensures { option_map normal_real result ≡ at_point negative whole.entry.bytes.now behind.now }
 {
-    let (fraction, rest) = behind.split_at(run(behind));
-    if fraction.is_empty() {
+    let (fraction, rest) = Digits::split(behind);
+    if fraction.bytes.is_empty() {
         return None;
     }
     put_together(negative, whole, fraction, rest)
 }
 
-fn read_unsigned(negative: bool, text: &[u8]) -> Option<Real>
+/// The real that the text behind a sign writes.
+fn read_unsigned(negative: bool, text: &[u8]) -> Option<NormalReal>
     requires { length text.now ≤ 40 }
-    ensures value { result ≡ unsigned_of negative text.now }
-    ensures normal { IfSome result Normal }
+    ensures { option_map normal_real result ≡ unsigned_of negative text.now }
 {
-    let (whole, rest) = text.split_at(run(text));
-    if whole.is_empty() {
+    let (whole, rest) = Digits::split(text);
+    if whole.bytes.is_empty() {
         return None;
     }
     match rest {
         [b'.', behind @ ..] => read_behind(negative, whole, behind),
-        _ => put_together(negative, whole, &[], rest),
+        _ => put_together(negative, whole, Digits { bytes: &[] }, rest),
     }
 }
 
-/// The decimal that a text of at most 40 bytes writes.
-pub(crate) fn read_real(text: &[u8]) -> Option<Real>
-    requires { length text.now ≤ 40 }
-    ensures value { result ≡ decimal_of text.now }
-    ensures normal { IfSome result Normal }
+/// The real that a text writes.
+pub(crate) fn read_real(text: &Text) -> Option<NormalReal>
+    ensures { option_map normal_real result ≡ decimal_of (text_bytes text.now) }
 {
-    match text {
+    match text.as_bytes() {
         [b'-', digits @ ..] => read_unsigned(true, digits),
-        _ => read_unsigned(false, text),
+        digits => read_unsigned(false, digits),
     }
 }

@@ -1,98 +1,99 @@
 //! The one spelling of a decimal.
-ghost use Rattle.std.specs.Prelude.{◌≡◌, ℕ, ◌+◌, ◌^◌, ◌<◌, ◌≤◌, ◌∷◌, ◌++◌, length, replicate, pos, negsuc, ◌≤ℤ◌, decimal, unsigned_abs};
+ghost use Rattle.std.specs.Prelude.{◌≡◌, ℕ, ◌+◌, ◌^◌, ◌<◌, ◌≤◌, ◌∷◌, ◌++◌, length, replicate, pos, negsuc, ◌≤ℤ◌, decimal, unsigned_abs, IsAscii};
+ghost use Rattle.arrayvec.specs.ArrayString.{array_string_len};
 ghost use Rattle.protocol.specs.Held.{text_bytes};
-ghost use Rattle.decimal.specs.Line.{line_bytes};
-ghost use Rattle.decimal.specs.Normal.{Normal};
-ghost use Rattle.decimal.specs.Spelling.{spelling, power_text, placed};
+ghost use Rattle.decimal.specs.Spelling.{spelling, power_text, placed, pointed};
+ghost use Rattle.decimal.specs.Views.{normal_real};
 
-use crate::line::Line;
-use crate::real::Real;
-use protocol::numeral::Numeral;
+use crate::normal::NormalReal;
+use arrayvec::ArrayString;
+use itoa::Buffer;
 use protocol::text::Text;
 
 /// What stands before the digits of a power of ten: its sign, and a zero where it has one digit.
-fn power_sign(p: i16) -> &'static [u8]
+fn power_sign(p: i16) -> &'static str
     ensures value { result.now ++ decimal (unsigned_abs p) ≡ power_text p }
     ensures short { length result.now ≤ 2 }
 {
     match p {
-        0..=9 => b"+0",
-        10.. => b"+",
-        -9..=-1 => b"-0",
-        _ => b"-",
+        0..=9 => "+0",
+        10.. => "+",
+        -9..=-1 => "-0",
+        _ => "-",
     }
 }
 
-/// With E and a power of ten behind what is written.
-fn add_power(line: Line, p: i16) -> Line
+/// Writes E and a power of ten.
+fn put_power(text: &mut ArrayString<40>, p: i16)
     requires bounds { (negsuc 998 ≤ℤ p) × (p ≤ℤ pos 999) }
-    requires room { line.len + 6 ≤ 40 }
-    ensures bytes { line_bytes result ≡ line_bytes line ++ (69 ∷ power_text p) }
-    ensures short { result.len ≤ 40 }
+    requires room { array_string_len text.old + 6 ≤ 40 }
+    ensures { text.new.bytes ≡ text.old.bytes ++ (69 ∷ power_text p) }
 {
-    let size = Numeral::new(u64::from(p.unsigned_abs()));
-    line.add(b"E").add(power_sign(p)).add(size.as_bytes())
+    let mut buffer = Buffer::new();
+    text.push_str("E");
+    text.push_str(power_sign(p));
+    text.push_str(buffer.format(p.unsigned_abs()));
 }
 
-static ZEROS: [u8; 9] = [b'0'; 9];
-
-/// `n` zeros.
-fn zeros(n: usize) -> &'static [u8]
-    requires { n ≤ 9 }
-    ensures { result.now ≡ replicate n 48 }
+/// Writes digits with a point behind the first `whole` of them, and with none where no digit follows.
+fn put_pointed(text: &mut ArrayString<40>, digits: &str, whole: usize)
+    requires ascii { IsAscii digits.now }
+    requires room { array_string_len text.old + length digits.now < 40 }
+    ensures { text.new.bytes ≡ text.old.bytes ++ pointed whole digits.now }
 {
-    &ZEROS[0..n]
+    if digits.len() <= whole {
+        text.push_str(digits);
+        return;
+    }
+    let (front, fraction) = digits.split_at(whole);
+    text.push_str(front);
+    text.push_str(".");
+    text.push_str(fraction);
 }
 
-/// With digits behind what is written, the first of which stands at the power `p` of ten.
-fn place(line: Line, digits: &[u8], p: i16) -> Line
+/// As many zeros as a spelling has in a row.
+const ZEROS: &str = "000000000";
+
+/// Writes digits, the first of which stands at the power `p` of ten.
+fn place(text: &mut ArrayString<40>, digits: &str, p: i16)
     requires some { 0 < length digits.now }
     requires few { length digits.now ≤ 18 }
-    requires room { line.len ≤ 1 }
+    requires ascii { IsAscii digits.now }
+    requires room { array_string_len text.old ≤ 1 }
     requires bounds { (negsuc 998 ≤ℤ p) × (p ≤ℤ pos 999) }
-    ensures bytes { line_bytes result ≡ line_bytes line ++ placed p digits.now }
-    ensures short { result.len ≤ 40 }
+    ensures { text.new.bytes ≡ text.old.bytes ++ placed p digits.now }
 {
-    let count = digits.len();
-    let size = p.unsigned_abs() as usize;
+    let size = usize::from(p.unsigned_abs());
     match p {
-        -4..=-1 => line.add(b"0.").add(zeros(size - 1)).add(digits),
-        0..=9 if count <= size + 1 => line.add(digits).add(zeros(size + 1 - count)),
-        0..=9 => {
-            let (whole, fraction) = digits.split_at(size + 1);
-            line.add(whole).add(b".").add(fraction)
+        -4..=-1 => {
+            text.push_str("0.");
+            text.push_str(&ZEROS[..size - 1]);
+            text.push_str(digits);
         }
-        _ if count == 1 => add_power(line.add(digits), p),
+        0..=9 if digits.len() <= size => {
+            text.push_str(digits);
+            text.push_str(&ZEROS[..size + 1 - digits.len()]);
+        }
+        0..=9 => put_pointed(text, digits, size + 1),
         _ => {
-            let (first, others) = digits.split_at(1);
-            add_power(line.add(first).add(b".").add(others), p)
+            put_pointed(text, digits, 1);
+            put_power(text, p);
         }
     }
 }
 
 /// The one spelling of a decimal.
-pub(crate) fn spell(real: Real) -> Line
-    requires normal { Normal real }
-    requires bounds { (negsuc 399 ≤ℤ real.exponent) × (real.exponent ≤ℤ pos 400) }
-    ensures bytes { line_bytes result ≡ spelling real }
-    ensures short { result.len ≤ 40 }
+pub(crate) fn spell(d: NormalReal) -> Text
+    requires { (negsuc 399 ≤ℤ d.real.exponent) × (d.real.exponent ≤ℤ pos 400) }
+    ensures { text_bytes result ≡ spelling (normal_real d) }
 {
-    let sign: &[u8] = if real.negative { b"-" } else { b"" };
-    let numeral = Numeral::new(real.digits);
-    let digits = numeral.as_bytes();
-    let places = (digits.len() - 1) as i16;
-    place(Line::new().add(sign), digits, real.exponent + places)
-}
-
-/// The one spelling as a text.
-pub(crate) fn text_of(real: Real) -> Text
-    requires normal { Normal real }
-    requires bounds { (negsuc 399 ≤ℤ real.exponent) × (real.exponent ≤ℤ pos 400) }
-    ensures { text_bytes result ≡ spelling real }
-{
-    let line = spell(real);
-    match Text::new(&line.bytes[0..line.len]) {
-        Some(text) => text,
-        None => unreachable(),
+    let mut text = ArrayString::<40>::new();
+    if d.real.negative {
+        text.push_str("-");
     }
+    let mut buffer = Buffer::new();
+    let digits = buffer.format(d.real.digits);
+    let places = (digits.len() - 1) as i16;
+    place(&mut text, digits, d.real.exponent + places);
+    Text::new(text.as_str().as_bytes()).unwrap()
 }

@@ -15,8 +15,8 @@ use Rattle.protocol.specs.Texts.{textual, text_of}
 use Rattle.protocol.specs.declared.kind.Kind.{Kind}
 use Rattle.protocol.specs.declared.kind.Kind.TheVariants as K
 use Rattle.protocol.proofs.PlainText.{few}
-use Rattle.decimal.specs.Range.{single_of, double_of}
-use Rattle.decimal.proofs.Forms.{kept_single, kept_double, spelled_textual, single_back, double_back}
+use Rattle.decimal.specs.Range.{single_of, double_of, si_least, si_most, do_least, do_most}
+use Rattle.decimal.proofs.Forms.{ranged_textual, ranged_back}
 use Rattle.value.specs.Whole.{whole_of, long_least, long_most}
 use Rattle.value.specs.Values.{Datum, truth, whole, real, words, truth_of, read_as, value_read, spelled, Valid}
 use Rattle.value.specs.Meant.{kind_of, datum_of}
@@ -24,7 +24,7 @@ use Rattle.value.specs.declared.value.Value.{Value}
 use Rattle.value.specs.declared.value.Value.TheVariants as V
 use Rattle.value.proofs.Wholes.{reads_back, one_spelling}
 use Rattle.value.proofs.Signs.{signed_textual}
-use Rattle.value.proofs.Reals.{single_again, double_again}
+use Rattle.value.proofs.Reals.{within_again}
 
 mapped_some : {A B : Type 0} (f : A → B) (o : Option A) (y : B) → option_map f o ≡ Some y → (x : A) × ((o ≡ Some x) × (f x ≡ y))
 mapped_some f None y e = let z : ◌≡◌ {A = ℕ} 0 1 = cc in absurd (omega arith)
@@ -63,11 +63,11 @@ read_valid K.USh bs d e = again K.USh bs d (whole_once (pos 0) (pos 65535) bs d 
 read_valid K.Lo bs d e = again K.Lo bs d (whole_once long_least long_most bs d (search rules) (search rules) (reads_as K.Lo bs d e)) e
 read_valid K.Si bs d e =
     let m = mapped_some real (single_of bs) d (reads_as K.Si bs d e) in
-    let a = single_again bs m.0 (few bs (read_textual K.Si bs d e)) m.1.0 in
+    let a = within_again si_least si_most bs m.0 refl refl (few bs (read_textual K.Si bs d e)) m.1.0 in
     subst (λ x. Valid K.Si x) m.1.1 (cond-true _ _ _ a.0 ∙ ap (option_map real) a.1)
 read_valid K.Do bs d e =
     let m = mapped_some real (double_of bs) d (reads_as K.Do bs d e) in
-    let a = double_again bs m.0 (few bs (read_textual K.Do bs d e)) m.1.0 in
+    let a = within_again do_least do_most bs m.0 refl refl (few bs (read_textual K.Do bs d e)) m.1.0 in
     subst (λ x. Valid K.Do x) m.1.1 (cond-true _ _ _ a.0 ∙ ap (option_map real) a.1)
 read_valid K.By bs d e = again K.By bs d (whole_once (pos 0) (pos 255) bs d (search rules) (search rules) (reads_as K.By bs d e)) e
 read_valid K.St bs d e = let s : Some (words bs) ≡ Some d = reads_as K.St bs d e in let t : words bs ≡ d = cc in again K.St bs d (ap spelled t) e
@@ -111,18 +111,16 @@ value_valid (V.In n) f = whole_back (negsuc 2147483647) (pos 2147483647) n (sear
 value_valid (V.Sh n) f = whole_back (negsuc 32767) (pos 32767) n (search rules) (search (rules, ints)) (search (rules, ints))
 value_valid (V.USh n) f = whole_back (pos 0) (pos 65535) (pos n) (search rules) (search (rules, ints)) (search (rules, ints))
 value_valid (V.Lo l) f = whole_back long_least long_most l.number (search rules) l.within.0 l.within.1
-value_valid (V.Si s) f =
-    cond-true _ _ _ (spelled_textual s.real (kept_single s.real s.normal s.within)) ∙ ap (option_map real) (single_back s.real s.normal s.within)
-value_valid (V.Do d) f =
-    cond-true _ _ _ (spelled_textual d.real (kept_double d.real d.normal d.within)) ∙ ap (option_map real) (double_back d.real d.normal d.within)
+value_valid (V.Si s) f = cond-true _ _ _ (ranged_textual s) ∙ ap (option_map real) (ranged_back s)
+value_valid (V.Do d) f = cond-true _ _ _ (ranged_textual d) ∙ ap (option_map real) (ranged_back d)
 value_valid (V.By n) f = whole_back (pos 0) (pos 255) (pos n) (search rules) (search (rules, ints)) (search (rules, ints))
 value_valid (V.St t) f = cond-true _ _ _ t.plain
 
 pub value_textual : (v : Value) → Fit v → textual (spelled (datum_of v)) ≡ true
 value_textual v f = valid_textual (kind_of v) (datum_of v) (value_valid v f)
 
-pub kind_told : (v w : Value) → v ≡ w → Fit w → (kind_of w ≡ kind_of v) × Valid (kind_of v) (datum_of v)
-kind_told v w e f = (ap kind_of (sym e), subst (λ x. Valid (kind_of x) (datum_of x)) (sym e) (value_valid w f))
+pub held_valid : (v w : Value) → v ≡ w → Fit w → Valid (kind_of v) (datum_of v)
+held_valid v w e f = subst (λ x. Valid (kind_of x) (datum_of x)) (sym e) (value_valid w f)
 
 -- the bytes of a text that was made of bytes
 pub text_made : (bs ts : List ℕ) → Some ts ≡ text_of bs → (textual bs ≡ true) × (ts ≡ bs)

@@ -10,11 +10,13 @@ use Rattle.std.proofs.lemmas.Bool.{cases_Bool, cond-true, cond-false, and_from, 
 use Rattle.std.proofs.lemmas.Bool.Decides.{nat_tests}
 use Rattle.protocol.specs.Texts.{textual}
 use Rattle.decimal.specs.Normal.{in_form, nought}
-use Rattle.decimal.specs.Range.{passing, is_single, is_double, single_of, double_of}
+use Rattle.decimal.specs.Range.{passing, inside, is_end, within_of}
 use Rattle.decimal.specs.Reading.{run_of, tens_of, tens, normal, power_read, at_power, at_point, at_whole, unsigned_of, decimal_of}
 use Rattle.decimal.specs.Spelling.{spelling}
 use Rattle.decimal.specs.declared.real.Real.{Real}
-use Rattle.decimal.proofs.Forms.{kept_single, kept_double, spelled_textual, single_back, double_back}
+use Rattle.decimal.proofs.Backs.{all_append}
+use Rattle.decimal.proofs.Forms.{kept, spelled_textual, within_back}
+use Rattle.decimal.proofs.Readings.{run_digits}
 use Rattle.protocol.proofs.Digits.{own}
 
 -- no zero is left at the end once all are taken off
@@ -60,18 +62,6 @@ normal_form s m x d l e =
                 subst (λ y. in_form y ≡ true) q (form_parts n (ltb-true _ _ b) (tens_clear m (omega (arith, eqb-false m 0 t)) l))
             | inr b ↦ absurd (none_some (sym (cond-false _ _ _ b) ∙ f))
           ]
-    ]
-
-all_append : (xs ys : List ℕ) → all_ascii_digits xs ≡ true → all_ascii_digits ys ≡ true → all_ascii_digits (xs ++ ys) ≡ true
-all_append [] ys a b = b
-all_append (x ∷ xs) ys a b = let p = and_parts (is_ascii_digit x) _ a in and_from _ _ p.0 (all_append xs ys p.1 b)
-
-run_digits : (ds : List ℕ) → all_ascii_digits (take (run_of ds) ds) ≡ true
-run_digits [] = refl
-run_digits (c ∷ cs) =
-    elim (cases_Bool (is_ascii_digit c)) [
-      | inl t ↦ subst (λ n. all_ascii_digits (take n (c ∷ cs)) ≡ true) (sym (cond-true (is_ascii_digit c) (suc (run_of cs)) 0 t)) (and_from _ _ t (run_digits cs))
-      | inr t ↦ subst (λ n. all_ascii_digits (take n (c ∷ cs)) ≡ true) (sym (cond-false (is_ascii_digit c) (suc (run_of cs)) 0 t)) refl
     ]
 
 run_parts : (ds : List ℕ) → length (take (run_of ds) ds) + length (drop (run_of ds) ds) ≡ length ds
@@ -124,14 +114,8 @@ passed test (Some x) d e =
     ]
 
 -- what a text reads as has a spelling that is a text and reads as the same
-pub single_again : (bs : List ℕ) (d : Real) → length bs ≤ 40 → single_of bs ≡ Some d → (textual (spelling d) ≡ true) × (single_of (spelling d) ≡ Some d)
-single_again bs d l e =
-    let p = passed is_single (decimal_of bs) d e in
-    let f = decimal_form bs d l p.0 in
-    (spelled_textual d (kept_single d f p.1), single_back d f p.1)
-
-pub double_again : (bs : List ℕ) (d : Real) → length bs ≤ 40 → double_of bs ≡ Some d → (textual (spelling d) ≡ true) × (double_of (spelling d) ≡ Some d)
-double_again bs d l e =
-    let p = passed is_double (decimal_of bs) d e in
-    let f = decimal_form bs d l p.0 in
-    (spelled_textual d (kept_double d f p.1), double_back d f p.1)
+pub within_again : (least most : Real) (bs : List ℕ) (d : Real) → is_end least ≡ true → is_end most ≡ true → length bs ≤ 40 → within_of least most bs ≡ Some d → (textual (spelling d) ≡ true) × (within_of least most (spelling d) ≡ Some d)
+within_again least most bs d a b l e =
+    let p = passed (inside least most) (decimal_of bs) d e in
+    let k = kept least most d a b (decimal_form bs d l p.0) p.1 in
+    (spelled_textual d k, within_back least most d k p.1)

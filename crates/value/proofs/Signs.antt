@@ -35,26 +35,3 @@ pub signed_textual : (z : ℤ) → SFits w64 z → textual (signed_decimal z) �
 signed_textual z f =
     let s : sized (signed_decimal z) ≡ true = and_from _ _ (le-leb 1 (length (signed_decimal z)) (some_signed z f)) (le-leb (length (signed_decimal z)) 40 (omega (arith, few_signed z f))) in
     and_from _ _ s (and_from _ _ (free_signed z f) ((utf8_decides (signed_decimal z)).1 (IsUtf8-from_ascii (signed_decimal z) (IsAscii-signed z f.sfits))))
-
-pub signed_below : (z : ℤ) → lt_z z (pos 0) ≡ true → signed_decimal z ≡ (45 ∷ []) ++ decimal (nat_abs z)
-signed_below (pos n) h = grind (arith, ints)
-signed_below (negsuc n) h = refl
-
-pub signed_above : (z : ℤ) → lt_z z (pos 0) ≡ false → signed_decimal z ≡ [] ++ decimal (nat_abs z)
-signed_above (pos n) h = refl
-signed_above (negsuc n) h = grind (arith, ints)
-
--- the bytes put behind a sign that stands at the row's start
-pub put_signed : (z : ℤ) (row now sign bs : List ℕ) (start : ℕ) → SFits w64 z → signed_decimal z ≡ sign ++ bs → length row ≡ 40 → now ≡ put_at row 0 sign → start ≡ length sign → (cond (fits now start bs) (start + length bs) start ≡ length (signed_decimal z)) × (cond (fits now start bs) (put_at now start bs) now ≡ put_at row 0 (signed_decimal z))
-put_signed z row now sign bs start f e l n s =
-    let k : length (signed_decimal z) ≡ length sign + length bs = ap length e ∙ length-append sign bs in
-    let m : length sign + length bs ≤ 20 = omega (arith, few_signed z f) in
-    let w : length now ≡ 40 = ap length n ∙ length_put row 0 sign (omega arith) ∙ l in
-    let t : fits now start bs ≡ true = le-leb (start + length bs) (length now) (omega arith) in (
-      cond-true _ _ _ t ∙ omega arith,
-      cond-true _ _ _ t ∙ ap (λ r. put_at r start bs) n ∙ put_put row 0 start sign bs (omega arith) (omega arith) ∙ ap (put_at row 0) (sym e),
-    )
-
--- what stands at the start of the row then
-pub taken_signed : (z : ℤ) (row last : List ℕ) (end : ℕ) → end ≡ length (signed_decimal z) → last ≡ put_at row 0 (signed_decimal z) → take (end - 0) last ≡ signed_decimal z
-taken_signed z row last end e r = let l : length (signed_decimal z) ≡ end - 0 = omega arith in ap (take (end - 0)) r ∙ take_at (signed_decimal z) _ _ l

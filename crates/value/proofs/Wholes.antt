@@ -1,17 +1,19 @@
 -- What `parse` reads of a text that begins as a whole number does, in the words of specs/Whole.antt.
-use Rattle.std.proofs.Common.{◌≡◌, ℕ, zero, suc, ◌^◌, ◌<◌, ◌≤◌, true, false, not, ◌&&◌, eqb, List, [], ◌∷◌, length, get_or, ℤ, pos, negsuc, neg_ℤ, ◌≤ℤ◌, Some, None, Ok, Err, decimal, Option, Result, sym, refl, ap, ◌∙◌, inl, inr, arith, w64, SFits}
+use Rattle.std.proofs.Common.{◌≡◌, ℕ, zero, suc, ◌+◌, ◌^◌, ◌<◌, ◌≤◌, true, false, not, ◌&&◌, eqb, List, [], ◌∷◌, length, get_or, drop, ℤ, pos, negsuc, neg_ℤ, nat_abs, ◌≤ℤ◌, Some, None, Ok, Err, decimal, MatchOption, Option, Result, cond, sym, refl, ap, ◌∙◌, inl, inr, arith, w64, SFits, rules}
 use lib.Signed.{le_z}
+use Rattle.std.specs.Option.{option_map}
+use Rattle.std.specs.Result.{result_ok, OkIff}
 use Rattle.std.specs.Str.Parse.{digits_value, starts_with_minus, ParsesSigned}
-use Rattle.std.specs.Int.{IsInRange}
+use Rattle.std.specs.Int.{IsInRange, FitsUnsignedBits}
 use Rattle.std.specs.Fmt.{signed_decimal}
 use Rattle.std.specs.Str.{all_ascii_digits}
 use Rattle.protocol.proofs.Digits.{own}
 use Rattle.std.proofs.lemmas.Str.Parse.{parse_signed_minus, parse_signed_plain}
 use Rattle.std.proofs.lemmas.Fmt.{digits_decimal, digits_value-decimal, first_decimal, decimal_nonempty, length-decimal-le, decimal-digits_value, decimal_digit}
-use Rattle.std.proofs.lemmas.Bool.{cases_Bool, cond-true, cond-false, and_left, and_right, cases_lt, cases_eq, false≢true, and_parts, ne_eqb}
+use Rattle.std.proofs.lemmas.Bool.{cases_Bool, and_from, cond-true, cond-false, and_left, and_right, cases_lt, cases_eq, false≢true, and_parts, ne_eqb}
 use Rattle.std.proofs.lemmas.Bool.Decides.{nat_tests}
 use Rattle.std.proofs.lemmas.Int.{ints}
-use Rattle.value.specs.Whole.{plain, between, whole_of, begins}
+use Rattle.value.specs.Whole.{plain, between, whole_of, begins, wide_least, wide_most, ReadsInto}
 
 abbrev pub picked : {E : Type 0} → ℤ → ℤ → Result ℤ E → Option ℤ
 picked lo hi (Ok z) = between lo hi z
@@ -147,3 +149,86 @@ one_spelling lo hi z (c ∷ cs) f g e =
       | inl m ↦ rw m (one_minus lo hi z cs f (rw m at e))
       | inr m ↦ one_plain lo hi z (c ∷ cs) g (ne_eqb c 45 m) e
     ]
+
+-- what a text writes as a whole number, however large
+numeral : List ℕ → Option ℤ
+numeral bs =
+    cond (starts_with_minus bs)
+    (cond (plain (drop 1 bs) && not (eqb (get_or bs 1 0) 48)) (Some (neg_ℤ (pos (digits_value 10 (drop 1 bs))))) None)
+    (cond (plain bs) (Some (pos (digits_value 10 bs))) None)
+
+kept_in : ℤ → ℤ → Option ℤ → Option ℤ
+kept_in lo hi None = None
+kept_in lo hi (Some z) = between lo hi z
+
+whole_is : (lo hi : ℤ) (bs : List ℕ) → whole_of lo hi bs ≡ kept_in lo hi (numeral bs)
+unfolding numeral kept_in
+whole_is lo hi bs =
+    elim (cases_Bool (starts_with_minus bs)) [
+      | inl m ↦
+          elim (cases_Bool (plain (drop 1 bs) && not (eqb (get_or bs 1 0) 48))) [
+            | inl t ↦ rw (m, t) refl
+            | inr t ↦ rw (m, t) refl
+          ]
+      | inr m ↦ elim (cases_Bool (plain bs)) [ inl t ↦ rw (m, t) refl | inr t ↦ rw (m, t) refl ]
+    ]
+
+narrow : (lo hi : ℤ) (o : Option ℤ) → wide_least ≤ℤ lo → hi ≤ℤ wide_most → kept_in lo hi o ≡ kept_in lo hi (kept_in wide_least wide_most o)
+unfolding kept_in
+narrow lo hi None a b = refl
+narrow lo hi (Some z) a b =
+    elim (cases_Bool (le_z wide_least z && le_z z wide_most)) [
+      | inl t ↦ rw t refl
+      | inr t ↦
+          let u : (le_z lo z && le_z z hi) ≡ false = grind (arith, ints) in
+          rw t (cond-false _ _ _ u)
+    ]
+
+-- ends within 64 bits narrow what is read with 64 bits
+narrowed : (lo hi : ℤ) (bs : List ℕ) → wide_least ≤ℤ lo → hi ≤ℤ wide_most → whole_of lo hi bs ≡ kept_in lo hi (whole_of wide_least wide_most bs)
+narrowed lo hi bs a b = whole_is lo hi bs ∙ narrow lo hi (numeral bs) a b ∙ ap (kept_in lo hi) (sym (whole_is wide_least wide_most bs))
+
+-- what is read into a type is the number between the type's ends
+pub converted : {T E : Type 0} (number : T → ℤ) (lo hi : ℤ) (gives : ℤ → Result T E → Type 0) (bs : List ℕ) (o : Option T) → wide_least ≤ℤ lo → hi ≤ℤ wide_most → ((n : ℤ) (r : Result T E) → gives n r → option_map number (result_ok r) ≡ between lo hi n) → ReadsInto gives bs o → option_map number o ≡ whole_of lo hi bs
+unfolding kept_in
+converted {T} {E} number lo hi gives bs o a b law h = by_read (whole_of wide_least wide_most bs) h ∙ sym (narrowed lo hi bs a b)
+  where
+    by_read : (w : Option ℤ) → MatchOption w (o ≡ None) (λ n. (r : Result T E) × gives n r × (o ≡ result_ok r)) → option_map number o ≡ kept_in lo hi w
+    by_read None e = ap (option_map number) e
+    by_read (Some n) (r, g, e) = ap (option_map number) e ∙ law n r g
+
+picked_none : {E : Type 0} (lo hi : ℤ) (r : Result ℤ E) → None ≡ result_ok r → picked lo hi r ≡ None
+picked_none lo hi (Ok z) e = let y : ◌≡◌ {A = ℕ} 0 1 = cc in absurd (omega arith)
+picked_none lo hi (Err d) e = refl
+
+picked_some : {E : Type 0} (lo hi n : ℤ) (r : Result ℤ E) → Some n ≡ result_ok r → picked lo hi r ≡ between lo hi n
+picked_some lo hi n (Ok z) e = let q : z ≡ n = cc in ap (between lo hi) q
+picked_some lo hi n (Err d) e = let y : ◌≡◌ {A = ℕ} 0 1 = cc in absurd (omega arith)
+
+pub wide_none : {E : Type 0} (bs : List ℕ) (r : Result ℤ E) → begins bs ≡ true → ParsesSigned w64 10 bs r → None ≡ result_ok r → whole_of wide_least wide_most bs ≡ None
+wide_none {E} bs r b h e = reads_whole {E = E} wide_least wide_most bs r (search rules) (search rules) b h ∙ picked_none wide_least wide_most r e
+
+pub wide_some : {E : Type 0} (bs : List ℕ) (r : Result ℤ E) (n : ℤ) → SFits w64 n → begins bs ≡ true → ParsesSigned w64 10 bs r → Some n ≡ result_ok r → whole_of wide_least wide_most bs ≡ Some n
+wide_some {E} bs r n f b h e =
+    reads_whole {E = E} wide_least wide_most bs r (search rules) (search rules) b h
+    ∙ picked_some wide_least wide_most n r e
+    ∙ (let t : (le_z wide_least n && le_z n wide_most) ≡ true = grind (arith, ints, f.sfits) in cond-true _ _ _ t)
+
+-- a conversion that succeeds just for the numbers between two ends
+pub decided : {T E : Type 0} (number : T → ℤ) (lo hi n : ℤ) (r : Result T E) (P : Type 0) (v : T) → OkIff r P v → (P → (lo ≤ℤ n) × ((n ≤ℤ hi) × (number v ≡ n))) → (lo ≤ℤ n → n ≤ℤ hi → P) → option_map number (result_ok r) ≡ between lo hi n
+decided number lo hi n (Ok x) P v (p, e) to from =
+    let a = to p in
+    let t : (le_z lo n && le_z n hi) ≡ true = grind (arith, ints, a.0, a.1.0) in
+    ap Some (ap number e ∙ a.1.1) ∙ sym (cond-true _ _ _ t)
+decided number lo hi n (Err d) P v k to from =
+    elim (cases_Bool (le_z lo n && le_z n hi)) [
+      | inl t ↦ absurd (k (from (grind (arith, ints)) (grind (arith, ints))))
+      | inr t ↦ sym (cond-false _ _ _ t)
+    ]
+
+-- the conversion into a type without a sign
+pub unsigned_told : {E : Type 0} (k most : ℕ) (n : ℤ) (r : Result ℕ E) → most + 1 ≡ 2 ^ k → OkIff r (FitsUnsignedBits k n) (nat_abs n) → option_map (λ m. pos m) (result_ok r) ≡ between (pos 0) (pos most) n
+unsigned_told k most (pos m) r e o =
+    decided (λ m. pos m) (pos 0) (pos most) (pos m) r (m < 2 ^ k) m o (λ p. (omega (arith, ints), (omega (arith, ints), refl))) (λ a b. omega (arith, ints))
+unsigned_told k most (negsuc m) r e o =
+    decided (λ m. pos m) (pos 0) (pos most) (negsuc m) r ⊥ (suc m) o (λ p. absurd p) (λ a b. omega (arith, ints))

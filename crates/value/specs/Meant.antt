@@ -6,7 +6,7 @@ use Rattle.std.specs.Prelude.{ℤ, pos}
 use Rattle.protocol.specs.Held.{text_bytes}
 use Rattle.protocol.specs.declared.kind.Kind.{Kind}
 use Rattle.protocol.specs.declared.kind.Kind.TheVariants as K
-use Rattle.decimal.specs.Views.{real_of, single_real}
+use Rattle.decimal.specs.Views.{real_of}
 use Rattle.value.specs.Values.{Datum, truth, whole, real, words}
 use Rattle.value.specs.declared.long.Long.{Long}
 use Rattle.value.specs.declared.value.Value.{Value}
@@ -32,7 +32,7 @@ datum_of (V.In n) = whole n
 datum_of (V.Sh n) = whole n
 datum_of (V.USh n) = whole (pos n)
 datum_of (V.Lo l) = whole (number_of l)
-datum_of (V.Si s) = real (single_real s)
+datum_of (V.Si s) = real (real_of s)
 datum_of (V.Do d) = real (real_of d)
 datum_of (V.By n) = whole (pos n)
 datum_of (V.St t) = words (text_bytes t)

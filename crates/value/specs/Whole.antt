@@ -1,7 +1,9 @@
 -- Whole numbers as text: digits with an optional minus, no leading zero, and no minus zero.
 --     whole_of lo hi bs      the number from lo to hi that the text bs writes, if it writes one
+--     ReadsInto gives bs o   o is what that number converts to, where it has 64 bits, and else nothing
 --     long_least, long_most  the ends of the long whole numbers
-use Rattle.std.specs.Prelude.{ℕ, Bool, false, cond, not, ◌&&◌, ◌||◌, List, [], ◌∷◌, length, drop, ℤ, pos, negsuc, neg_ℤ, Some, None, Option, ◌==◌, int_le, slice_index}
+use Rattle.std.specs.Prelude.{◌≡◌, ℕ, Bool, false, cond, not, ◌&&◌, ◌||◌, List, [], ◌∷◌, length, drop, ℤ, pos, negsuc, neg_ℤ, Some, None, MatchOption, Option, Result, ◌==◌, int_le, slice_index}
+use Rattle.std.specs.Result.{result_ok}
 use Rattle.std.specs.Str.Parse.{digits_value, starts_with_minus}
 use Rattle.std.specs.Int.{is_in_range}
 use Rattle.std.specs.Str.{all_ascii_digits}
@@ -34,3 +36,13 @@ long_least = negsuc 922337236854775807
 
 abbrev pub long_most : ℤ
 long_most = pos 922337236854775807
+
+-- the ends of the numbers of 64 bits
+abbrev pub wide_least : ℤ
+wide_least = negsuc 9223372036854775807
+
+abbrev pub wide_most : ℤ
+wide_most = pos 9223372036854775807
+
+abbrev pub ReadsInto : {T E : Type 0} → (ℤ → Result T E → Type 0) → List ℕ → Option T → Type 0
+ReadsInto {T} {E} gives bs o = MatchOption (whole_of wide_least wide_most bs) (o ≡ None) (λ n. (r : Result T E) × gives n r × (o ≡ result_ok r))

@@ -5,7 +5,7 @@ use decimal::single::Single;
 use protocol::text::Text;
 
 /// A value of one of the nine types.
-#[derive(Clone, Copy)]
+#[derive(Clone, Copy, PartialEq, Eq)]
 pub enum Value {
     /// True or False.
     Bo(bool),

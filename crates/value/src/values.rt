@@ -39,15 +39,15 @@ impl Value {
         ensures once { option_map spelled (value_read (kind_of self.now) (text_bytes result)) ≡ Some (text_bytes result) }
     {
         match *self {
-            Value::Bo(true) => text_of(b"True"),
-            Value::Bo(false) => text_of(b"False"),
-            Value::In(n) => spell_whole(n as i64),
-            Value::Sh(n) => spell_whole(n as i64),
-            Value::USh(n) => spell_whole(n as i64),
-            Value::Lo(long) => spell_whole(long.number),
+            Value::Bo(true) => text_of("True"),
+            Value::Bo(false) => text_of("False"),
+            Value::In(n) => spell_whole(i64::from(n)),
+            Value::Sh(n) => spell_whole(i64::from(n)),
+            Value::USh(n) => spell_whole(i64::from(n)),
+            Value::Lo(n) => spell_whole(i64::from(n)),
             Value::Si(single) => single.spelling(),
             Value::Do(decimal) => decimal.spelling(),
-            Value::By(n) => spell_whole(n as i64),
+            Value::By(n) => spell_whole(i64::from(n)),
             Value::St(text) => text,
         }
     }

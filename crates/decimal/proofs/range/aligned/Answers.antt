@@ -1,19 +1,27 @@
-use Rattle.std.proofs.Common.{◌-◌, ◌≤◌, ◌∙◌, arith}
-use native.Mathlib.Nat.{one-le-pow}
-use Rattle.decimal.proofs.Ranges.{room_left, turned, up}
+use Rattle.std.proofs.Common.{◌≡◌, ◌-◌, ◌*◌, ◌^◌, ◌<◌, ◌≤◌, ap, ◌∙◌, sym, subst, arith}
+use Rattle.decimal.proofs.Sizes.{digits_below, filled, size_is}
 use Rattle.decimal.proofs.range.aligned.Goals as goal
+use Rattle.decimal.proofs.range.aligned.Goals.{After-ilog10-missing, After-pow}
 
-pub overflow_sub-place : goal.overflow_sub-place
-overflow_sub-place c = room_left c.args.power c.loop-front.place c.loop-front.front c.requires.room c.loop-front.invariant.3 (omega arith)
+short : (c : goal.After-ilog10-missing) → c.ilog10-missing.result ≤ 17
+short c = digits_below c.ilog10-missing.result c.args.d.digits c.ilog10-missing.ensures.power_le c.requires.digits.1
 
-pub loop-front-smaller : goal.loop-front-smaller
-loop-front-smaller c =
-    let o = one-le-pow (c.args.power - c.loop-front.place) 10 (omega arith) in
-    omega (arith, c.loop-front.invariant.3)
+pub overflow_sub-missing : goal.overflow_sub-missing
+overflow_sub-missing c = short (goal.at.overflow_sub-missing c).After-ilog10-missing
 
-pub loop-front-preserved : goal.loop-front-preserved
-loop-front-preserved c =
-    let p = c.loop-front.place in
-    let h : 1 ≤ p = room_left c.args.power p c.loop-front.front c.requires.room c.loop-front.invariant.3 (omega arith) in
-    let u = up c.args.power p h c.loop-front.invariant.2 in
-    (turned c.loop-front.front p h ∙ c.loop-front.invariant.0, omega arith, omega arith, omega arith)
+full : (c : goal.After-pow) → (10 ^ 17 ≤ c.args.d.digits * c.pow.result) × (c.args.d.digits * c.pow.result < 10 ^ 18)
+full c =
+    let k = c.ilog10-missing.result in
+    subst (λ p. (10 ^ 17 ≤ c.args.d.digits * p) × (c.args.d.digits * p < 10 ^ 18)) (sym c.pow.ensures)
+    (filled k c.args.d.digits c.ilog10-missing.ensures.power_le c.ilog10-missing.ensures.next_power_gt (digits_below k c.args.d.digits c.ilog10-missing.ensures.power_le c.requires.digits.1))
+
+pub overflow_mul-result : goal.overflow_mul-result
+overflow_mul-result c = let f = full (goal.at.overflow_mul-result c).After-pow in omega arith
+
+pub returns-clause-same : goal.returns-clause-same
+returns-clause-same c =
+    let m = 17 - c.ilog10-missing.result in
+    rw c.pow.ensures (size_is c.args.d m c.requires.bounds.0 c.requires.bounds.1 (omega arith))
+
+pub returns-clause-full : goal.returns-clause-full
+returns-clause-full c = full (goal.at.returns-clause-full c).After-pow

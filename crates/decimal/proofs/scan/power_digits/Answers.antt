@@ -1,48 +1,40 @@
-use Rattle.std.proofs.Common.{◌≡◌, ◌+◌, ◌*◌, ◌^◌, ◌<◌, ◌≤◌, true, false, ◌&&◌, ltb, length, drop, Some, sym, ap, ◌∙◌, arith, rules}
-use native.Mathlib.Nat.{pow-le-pow_right}
-use Rattle.std.specs.Str.Parse.{digits_value_after}
-use Rattle.std.specs.Str.{all_ascii_digits}
-use Rattle.std.proofs.lemmas.List.{at_drop_all}
+use Rattle.std.proofs.Common.{◌≡◌, ◌-◌, ◌<◌, ◌≤◌, length, take, pos, ◌≤ℤ◌, IfSome, inl, inr, sym, ap, ◌∙◌, subst, arith, w16}
+use Rattle.std.specs.Option.{option_map}
+use Rattle.std.specs.Str.Parse.{ParsesSigned}
+use Rattle.std.proofs.lemmas.List.{length-drop, take_all}
 use Rattle.std.proofs.lemmas.Bool.Decides.{nat_tests}
-use Rattle.decimal.proofs.Gathers.{digit_in, stepped}
-use Rattle.decimal.proofs.Readings.{all_run, not_all, power_some, power_none, digit_more}
+use Rattle.decimal.specs.Reading.{run_of, power_digits}
+use Rattle.decimal.proofs.Readings.{all_run, run_le, power_unread, power_parsed, power_bound}
 use Rattle.decimal.proofs.scan.power_digits.Goals as goal
-use Rattle.decimal.proofs.scan.power_digits.Goals.{After-run, In-loop-b, After-loop-b, then-is_empty-via-then-is_empty, then-is_empty-via-else-is_empty+then-text-gt3, then-is_empty-via-else-is_empty+else-text-gt3+then-run-text}
+use Rattle.decimal.proofs.scan.power_digits.Goals.{After-split, After-ok, then-not-is_empty-via-then-not-is_empty, then-not-is_empty-via-else-not-is_empty+then-text-gt3}
 
-pub returns-then-is_empty : goal.returns-then-is_empty
-returns-then-is_empty c =
+left : (c : goal.After-split) → length c.split.result.1.now ≡ length c.args.text.now - run_of c.args.text.now
+left c = ap length c.split.ensures.rest ∙ length-drop (run_of c.args.text.now) c.args.text.now
+
+pub returns-then-not-is_empty-clause-value : goal.returns-then-not-is_empty-clause-value
+returns-then-not-is_empty-clause-value c =
+    let l = left (goal.at.returns-then-not-is_empty-clause-value c).After-split in
     let ds = c.args.text.now in
-    let t : (all_ascii_digits ds && (ltb 0 (length ds) && ltb (length ds) 4)) ≡ false =
-    elim c.then-is_empty.branch [
-      | then-is_empty-via-then-is_empty w ↦ grind (arith, nat_tests)
-      | then-is_empty-via-else-is_empty+then-text-gt3 w ↦ grind (arith, nat_tests)
-      | then-is_empty-via-else-is_empty+else-text-gt3+then-run-text w ↦ let n = not_all ds (omega (arith, w.run.ensures.value, w.if-run-text.true)) in grind (arith, nat_tests)
-    ] in
-    record { value = sym (power_none ds t); bound = tt }
+    elim c.then-not-is_empty.branch [
+      | then-not-is_empty-via-then-not-is_empty w ↦
+          let b : run_of c.args.text.now < length c.args.text.now = grind (arith, nat_tests, w.if-not-is_empty.ensures) in
+          sym (ap (option_map (λ n. pos n)) (power_unread ds (inl b)))
+      | then-not-is_empty-via-else-not-is_empty+then-text-gt3 w ↦ sym (ap (option_map (λ n. pos n)) (power_unread ds (inr (omega arith))))
+    ]
 
-digits : (c : goal.After-run) → length c.args.text.now ≤ c.run.result → all_ascii_digits c.args.text.now ≡ true
-digits c l = all_run c.args.text.now (omega arith)
-
-pub overflow_sub-b : goal.overflow_sub-b
-overflow_sub-b c = (digit_in c.args.text.now c.loop-b.b-index (digits (goal.at.overflow_sub-b c).After-run c.if-run-text.false) c.loop-b-test.true).0
-
-pub loop-b-preserved : goal.loop-b-preserved
-loop-b-preserved c =
+valued : (c : goal.After-ok) → length c.split.result.1.now ≡ length c.args.text.now - run_of c.args.text.now → c.ok.result ≡ option_map (λ n. pos n) (power_digits c.args.text.now)
+valued c l =
     let ds = c.args.text.now in
-    let i = c.loop-b.b-index in
-    let a = digits (goal.at.loop-b-preserved c).After-run c.if-run-text.false in
-    let d = digit_in ds i a c.loop-b-test.true in (
-      ap (λ x. digits_value_after 10 (c.loop-b.n * 10 + x) (drop (i + 1) ds)) c.from.ensures ∙ sym (stepped c.loop-b.n ds i a c.loop-b-test.true) ∙ c.loop-b.invariant.0,
-      digit_more c.loop-b.n c.from.result i c.loop-b.invariant.1 (omega arith),
-    )
+    let e : length c.split.result.1.now ≡ 0 = grind (arith, nat_tests, c.if-not-is_empty.ensures) in
+    let r : run_of c.args.text.now ≡ length c.args.text.now = omega (arith, run_le c.args.text.now) in
+    let t : c.as_str.result.now ≡ ds = c.as_str.ensures ∙ c.split.ensures.digits ∙ ap (λ n. take n ds) r ∙ take_all (length ds) ds (omega arith) in
+    c.ok.ensures.value ∙ power_parsed ds c.parse.result (subst (λ x. ParsesSigned w16 10 x c.parse.result) t c.parse.ensures.value.0) (all_run ds r) (omega arith)
 
-pub returns : goal.returns
-returns c =
-    let ds = c.args.text.now in
-    let i = c.loop-b.b-index in
-    let a = digits (goal.at.returns c).After-run c.if-run-text.false in
-    let v : c.loop-b.n ≡ digits_value_after 10 0 ds = sym (at_drop_all (digits_value_after 10 c.loop-b.n) ds i c.loop-b-test.false) ∙ c.loop-b.invariant.0 in
-    let l : i ≤ 3 = omega arith in
-    let p : 10 ^ i ≤ 10 ^ 3 = pow-le-pow_right (omega arith) l in
-    let e : 0 < length ds = search rules in
-    record { value = ap Some v ∙ sym (power_some ds a e (omega arith)); bound = omega arith }
+pub returns-clause-value : goal.returns-clause-value
+returns-clause-value c = valued (goal.at.returns-clause-value c).After-ok (left (goal.at.returns-clause-value c).After-split)
+
+pub returns-clause-bound : goal.returns-clause-bound
+returns-clause-bound c =
+    subst (λ o. IfSome o (λ z. (pos 0 ≤ℤ z) × (z ≤ℤ pos 999)))
+    (sym (valued (goal.at.returns-clause-bound c).After-ok (left (goal.at.returns-clause-bound c).After-split)))
+    (power_bound c.args.text.now)

@@ -1,24 +1,23 @@
-use Rattle.std.proofs.Common.{◌≡◌, ◌*◌, ◌%◌, ◌^◌, pos, negsuc, ◌≤ℤ◌, Some, sym, ap, ◌∙◌, subst, zero-mul, arith}
+use Rattle.std.proofs.Common.{◌≡◌, ℕ, Bool, ℤ, ◌*◌, ◌%◌, ◌^◌, pos, Some, sym, ap, ◌∙◌, zero-mul, arith}
 use Rattle.std.proofs.lemmas.Int.{ints}
+use Rattle.decimal.specs.declared.real.Real.{Real}
 use Rattle.decimal.specs.Gather.{amount}
-use Rattle.decimal.proofs.Readings.{normal_is, normal_zero, sum_in, zero_normal}
+use Rattle.decimal.proofs.Readings.{normal_is, normal_zero, sum_in}
 use Rattle.decimal.proofs.scan.settle.Goals as goal
+use Rattle.decimal.proofs.scan.settle.Goals.{then-c-eq0, else-c-eq0}
 
-pub returns-then-c-eq0 : goal.returns-then-c-eq0
-returns-then-c-eq0 c =
-    record { value = normal_zero c.args.negative (amount c.args.c) c.args.power (ap (λ d. d * 10 ^ c.args.c.zeros) c.if-c-eq0.true ∙ zero-mul (10 ^ c.args.c.zeros)); normal = zero_normal }
+settled : (negative : Bool) (digits : ℕ) (x y : ℤ) → x ≡ y → ◌≡◌ {A = Real} (record { negative = negative; digits = digits; exponent = x }) (record { negative = negative; digits = digits; exponent = y })
+settled negative digits x y e = ap (λ z. record { negative = negative; digits = digits; exponent = z }) e
 
 pub returns : goal.returns
 returns c =
-    let s = sum_in c.args.power c.args.c.zeros (omega (arith, ints, c.requires.bounds.0)) (omega (arith, ints, c.requires.bounds.1)) (omega arith) in
-    let n : c.args.c.digits % 10 ≡ 0 → ⊥ = λ e. c.if-c-eq0.false (c.requires.clean.last e) in
-    record {
-      value = normal_is c.args.negative c.args.c.digits c.args.c.zeros c.args.power n c.requires.clean.short c.requires.room ∙ ap (λ x. Some (record { negative = c.args.negative; digits = c.args.c.digits; exponent = x })) (sym s);
-      normal =
-          record {
-            short = c.requires.clean.short;
-            last = λ e. absurd (n e);
-            low = subst (λ x. negsuc 1099 ≤ℤ x) (sym s) (omega (arith, ints, c.requires.bounds.0));
-            high = subst (λ x. x ≤ℤ pos 1100) (sym s) (omega (arith, ints, c.requires.bounds.1));
-          };
-    }
+    elim c.if-c-eq0.branch [
+      | then-c-eq0 w ↦
+          normal_zero c.args.negative (amount c.args.c) c.args.power (ap (λ d. d * 10 ^ c.args.c.zeros) w.if-c-eq0.true ∙ zero-mul (10 ^ c.args.c.zeros))
+          ∙ ap Some (sym w.real-is)
+      | else-c-eq0 w ↦
+          let n : c.args.c.digits % 10 ≡ 0 → ⊥ = λ e. w.if-c-eq0.false (c.args.c.last e) in
+          let s = sum_in c.args.power (pos c.args.c.zeros) (omega (arith, ints, c.requires.bounds.0)) (omega (arith, ints, c.requires.bounds.1)) (omega (arith, ints)) (omega (arith, ints)) in
+          normal_is c.args.negative c.args.c.digits c.args.c.zeros c.args.power n c.args.c.short c.requires.room
+          ∙ ap Some (settled c.args.negative c.args.c.digits _ _ (sym s) ∙ sym (rw w.from.ensures at w.real-is))
+    ]

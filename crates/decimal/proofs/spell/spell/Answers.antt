@@ -1,58 +1,62 @@
-use Rattle.std.proofs.Common.{◌≡◌, ◌-◌, ◌^◌, ◌<◌, ◌≤◌, Bool, true, false, ◌++◌, length, pos, negsuc, ◌+ℤ◌, ◌≤ℤ◌, decimal, ap, ◌∙◌, arith, w16, to_z, of_z, rules}
+use Rattle.std.proofs.Common.{◌≡◌, ℕ, ◌-◌, ◌^◌, ◌<◌, ◌≤◌, ◌++◌, length, pos, negsuc, ◌+ℤ◌, ◌≤ℤ◌, Some, decimal, sym, ap, ◌∙◌, arith, w16, to_z, of_z, rules}
 use Rattle.std.specs.Fmt.{sign_text}
-use Rattle.std.proofs.lemmas.Int.{ints}
+use Rattle.std.specs.Option.{option_map}
+use Rattle.std.proofs.lemmas.Bool.{cond-true}
 use Rattle.std.proofs.lemmas.Fmt.{decimal_nonempty, length-decimal-le}
-use Rattle.decimal.specs.Line.{line_bytes}
-use Rattle.decimal.specs.Spelling.{placed}
+use Rattle.protocol.specs.Held.{text_bytes}
+use Rattle.protocol.specs.Texts.{text_of}
+use Rattle.decimal.specs.Spelling.{spelling, placed}
+use Rattle.decimal.proofs.Forms.{kept_by, spelled_textual}
+use Rattle.decimal.proofs.Readings.{some_made}
 use Rattle.decimal.proofs.Reals.{sum16}
 use Rattle.decimal.proofs.spell.spell.Goals as goal
-use Rattle.decimal.proofs.spell.spell.Goals.{After-add, After-as_bytes-digits, After-struct_told-1, After-place, then-real, else-real}
+use Rattle.decimal.proofs.spell.spell.Goals.{After-format-digits, After-new, then-d, else-d}
 
-counted : (c : goal.After-as_bytes-digits) → (1 ≤ length c.as_bytes-digits.result.now) × (length c.as_bytes-digits.result.now ≤ 18) × (c.as_bytes-digits.result.now ≡ decimal c.args.real.digits)
+counted : (c : goal.After-format-digits) → (1 ≤ length c.format-digits.result.now) × (length c.format-digits.result.now ≤ 18)
 counted c =
-    let n = c.args.real.digits in
-    let h : n < 2 ^ 64 = omega (arith, c.requires.normal.short) in
-    let a = decimal_nonempty n h in
-    let b = length-decimal-le 18 n (omega arith) c.requires.normal.short h in
-    let e : c.as_bytes-digits.result.now ≡ decimal n = c.as_bytes-digits.ensures ∙ c.new-numeral.ensures in
-    let l = ap length e in
-    (omega arith, omega arith, e)
+    let n = c.args.d.real.digits in
+    let h : n < 10 ^ 18 = search rules in
+    let f : n < 2 ^ 64 = omega arith in
+    let l = ap length c.format-digits.ensures.text in
+    (omega (arith, decimal_nonempty n f), omega (arith, length-decimal-le 18 n (omega arith) h f))
 
 pub overflow_sub-places : goal.overflow_sub-places
-overflow_sub-places c = (counted c).0
+overflow_sub-places c = (counted (goal.at.overflow_sub-places c).After-format-digits).0
 
-sum : (c : goal.After-as_bytes-digits) → to_z w16 (of_z w16 (to_z w16 (of_z w16 c.args.real.exponent) +ℤ to_z w16 (length c.as_bytes-digits.result.now - 1))) ≡ c.args.real.exponent +ℤ pos (length c.as_bytes-digits.result.now - 1)
-sum c = (sum16 c.args.real.exponent (length c.as_bytes-digits.result.now - 1) c.requires.bounds.0 c.requires.bounds.1 (omega (arith, (counted c).1))).1
+pub place-requires-clause-some : goal.place-requires-clause-some
+place-requires-clause-some c = (counted (goal.at.place-requires-clause-some c).After-format-digits).0
 
-signed_by : (c : goal.After-add) → c.if-real.sign.now ≡ sign_text c.args.real.negative
-signed_by c = elim c.if-real.branch [ then-real w ↦ search rules | else-real w ↦ search rules ]
+pub place-requires-clause-few : goal.place-requires-clause-few
+place-requires-clause-few c = (counted (goal.at.place-requires-clause-few c).After-format-digits).1
 
-short_sign : (b : Bool) → length (sign_text b) ≤ 1
-short_sign true = omega arith
-short_sign false = omega arith
+signed_by : (c : goal.After-new) → c.if-d.text.bytes ≡ sign_text c.args.d.real.negative
+signed_by c = elim c.if-d.branch [ then-d w ↦ search rules | else-d w ↦ search rules ]
 
-pub place-requires : goal.place-requires
-place-requires c =
-    let k = counted (goal.at.place-requires c).After-as_bytes-digits in
-    let q = sum (goal.at.place-requires c).After-as_bytes-digits in
-    let g = ap length (signed_by (goal.at.place-requires c).After-add) in
-    let h = short_sign c.args.real.negative in
-    let m : (negsuc 998 ≤ℤ (c.args.real.exponent +ℤ pos (length c.as_bytes-digits.result.now - 1))) × ((c.args.real.exponent +ℤ pos (length c.as_bytes-digits.result.now - 1)) ≤ℤ pos 999) = (omega (arith, ints), omega (arith, ints)) in
-    record { some = k.0; few = k.1; room = omega (arith, g, h, c.new.ensures.len, c.add.ensures.len); bounds = rw q m }
+-- what is made a text
+written : (c : goal.After-new) → length c.format-digits.result.now ≤ 18 → c.as_bytes.result.now ≡ spelling c.args.d.real
+written c k =
+    let d = c.args.d.real in
+    let ds = c.format-digits.result.now in
+    c.as_bytes.ensures.value
+    ∙ c.as_str.ensures.value
+    ∙ c.place.ensures
+    ∙ ap (λ x. x ++ placed (to_z w16 (of_z w16 (to_z w16 (of_z w16 d.exponent) +ℤ to_z w16 (length ds - 1)))) ds) (signed_by c)
+    ∙ ap (λ x. sign_text d.negative ++ placed x ds) (sum16 d.exponent (length ds - 1) c.requires.0 c.requires.1 (omega arith)).1
+    ∙ ap (λ x. sign_text d.negative ++ placed (d.exponent +ℤ pos (length x - 1)) x) c.format-digits.ensures.text
+
+made : (c : goal.After-new) → length c.format-digits.result.now ≤ 18 → option_map text_bytes c.new.result ≡ Some (spelling c.args.d.real)
+made c k =
+    let d = c.args.d in
+    c.new.ensures
+    ∙ ap text_of (written c k)
+    ∙ cond-true _ _ _ (spelled_textual d.real (kept_by d.real d.normal c.requires.0 c.requires.1))
+
+pub unwrap-requires : goal.unwrap-requires
+unwrap-requires c =
+    some_made text_bytes c.new.result _ (made (goal.at.unwrap-requires c).After-new (counted (goal.at.unwrap-requires c).After-format-digits).1)
 
 pub returns : goal.returns
 returns c =
-    let k = counted (goal.at.returns c).After-as_bytes-digits in
-    let q = sum (goal.at.returns c).After-as_bytes-digits in
-    let ds = c.as_bytes-digits.result.now in
-    let d = c.args.real in
-    let front : line_bytes c.add.result ≡ sign_text d.negative =
-    c.add.ensures.bytes ∙ ap (λ x. x ++ c.if-real.sign.now) c.new.ensures.bytes ∙ signed_by (goal.at.returns c).After-add in
-    record {
-      bytes =
-          c.place.ensures.bytes
-          ∙ ap (λ x. x ++ placed (to_z w16 (of_z w16 (to_z w16 (of_z w16 d.exponent) +ℤ to_z w16 (length ds - 1)))) ds) front
-          ∙ ap (λ x. sign_text d.negative ++ placed x ds) q
-          ∙ ap (λ x. sign_text d.negative ++ placed (d.exponent +ℤ pos (length x - 1)) x) k.2;
-      short = c.place.ensures.short;
-    }
+    let m = made (goal.at.returns c).After-new (counted (goal.at.returns c).After-format-digits).1 in
+    let e = ap (option_map text_bytes) c.unwrap.ensures in
+    cc (sym e ∙ m)
