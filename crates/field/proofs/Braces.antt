@@ -1,5 +1,7 @@
 -- Braces and UTF-8.
-use Rattle.std.proofs.Common.{◌≡◌, ℕ, ◌+◌, ◌-◌, ◌<◌, ◌≤◌, Bool, true, false, cond, not, ◌&&◌, ◌||◌, eqb, leb, ◌⊎◌, List, [], ◌∷◌, ◌++◌, length, get_or, take, drop, Some, None, Ok, Err, IsUtf8, sym, refl, ap, ◌∙◌, subst, ⊎_elim, arith, length-drop, length-take}
+use Rattle.std.proofs.Common.{◌≡◌, ℕ, ◌+◌, ◌-◌, ◌<◌, ◌≤◌, Bool, true, false, cond, not, ◌&&◌, ◌||◌, eqb, leb, ◌⊎◌, List, [], ◌∷◌, ◌++◌, length, get_or, take, drop, Some, None, Ok, Err, IsUtf8, Result, MatchResult, is_ok, sym, refl, ap, ◌∙◌, subst, ⊎_elim, arith, length-drop, length-take}
+use Rattle.std.specs.List.{list_any}
+use Rattle.std.specs.Bool.{◌==◌}
 use Rattle.std.proofs.lemmas.List.{at_drop_more, drop_more, take_more, get_or-drop, take_all}
 use Rattle.std.proofs.lemmas.Str.Ascii.{IsAscii-cons, IsAscii-nil}
 use Rattle.std.proofs.lemmas.Str.{IsUtf8-between, IsUtf8-append, IsUtf8-from_ascii, IsCharBoundary-after_ascii}
@@ -11,15 +13,16 @@ use Rattle.field.specs.Fields.{fields}
 use Rattle.field.specs.Frames.{plain, inside, framed, fields_of}
 use Rattle.field.proofs.Splits.{Ends}
 
-pub plain_more : (xs : List ℕ) (i : ℕ) → i < length xs → (get_or xs i 0 ≡ 123 → ⊥) → (get_or xs i 0 ≡ 125 → ⊥) → plain (drop (i + 1) xs) ≡ plain (drop i xs)
-plain_more xs i h a b =
-    let e : plain (drop i xs) ≡ (not (eqb (get_or xs i 0) 123 || eqb (get_or xs i 0) 125) && plain (drop (i + 1) xs)) = at_drop_more plain xs i 0 h in
-    sym (rw (ne_eqb (get_or xs i 0) 123 a, ne_eqb (get_or xs i 0) 125 b) at e)
+abbrev pub is_brace : ℕ → Bool
+is_brace b = b == 123 || b == 125
 
-pub plain_stops : (xs : List ℕ) (i : ℕ) → i < length xs → (get_or xs i 0 ≡ 123) ⊎ (get_or xs i 0 ≡ 125) → plain (drop i xs) ≡ false
-plain_stops xs i h =
-    let e : plain (drop i xs) ≡ (not (eqb (get_or xs i 0) 123 || eqb (get_or xs i 0) 125) && plain (drop (i + 1) xs)) = at_drop_more plain xs i 0 h in
-    ⊎_elim (λ a. rw a at e) (λ b. rw b at e)
+not_either : (a b : Bool) → not (a || b) ≡ (not a && not b)
+not_either true b = refl
+not_either false b = refl
+
+pub plain_any : (bs : List ℕ) → not (list_any is_brace bs) ≡ plain bs
+plain_any [] = refl
+plain_any (b ∷ bs) = not_either (is_brace b) (list_any is_brace bs) ∙ ap (λ t. not (is_brace b) && t) (plain_any bs)
 
 -- what `framed` tests of the two ends
 pub record Framed (bs : List ℕ) : Type 0 where
@@ -87,3 +90,8 @@ module _ (bs body : List ℕ) (short : length bs ≤ 512) (e : Some body ≡ con
       let l : length text ≡ length bs - 1 - 1 = ap length same ∙ length-take (length bs - 1 - 1) (drop 1 bs) ∙ omega (arith, length-drop 1 bs) in
       let one : length bs - 1 - length text ≡ 1 = omega arith in
       (omega arith, rw (one, l) same)
+
+-- what `map_err` passes on was there
+pub ok_of : {X E : Type 0} (F : Type 0) (Q : E → Type 0) (r : Result X E) (x : X) → MatchResult r (λ y. ◌≡◌ {A = Result X F} (Ok x) (Ok y)) Q → true ≡ is_ok r → r ≡ Ok x
+ok_of F Q (Ok y) x e k = cc
+ok_of F Q (Err y) x e k = cc

@@ -56,14 +56,14 @@ numeral_decimal top n l f =
     (rw is l)
     ∙ ap Some is
 
--- what `parse::<u16>` says of a text with no plus and no leading zero in front
-pub parse_is : {E : Type 0} (top : ℕ) (bs : List ℕ) (r : Result ℕ E) → ParsesUnsigned 16 10 bs r → (get_or bs 0 0 ≡ 43 → ⊥) → (get_or bs 0 0 ≡ 48 → length bs ≤ 1) → top < 2 ^ 16 → MatchResult r (λ n. numeral top bs ≡ cond (leb n top) (Some n) None) (λ _. numeral top bs ≡ None)
+-- what `parse::<u64>` says of a text with no plus and no leading zero in front
+pub parse_is : {E : Type 0} (top : ℕ) (bs : List ℕ) (r : Result ℕ E) → ParsesUnsigned 64 10 bs r → (get_or bs 0 0 ≡ 43 → ⊥) → (get_or bs 0 0 ≡ 48 → length bs ≤ 1) → top < 2 ^ 64 → MatchResult r (λ n. numeral top bs ≡ cond (leb n top) (Some n) None) (λ _. numeral top bs ≡ None)
 parse_is {E = E} top bs (Ok n) h plus lead t =
-    let p = parse_plain own {E = E} 16 bs (Ok n) h plus in
+    let p = parse_plain own {E = E} 64 bs (Ok n) h plus in
     ⊎_elim
     (λ l. let m = le-leb n top l in rw m (numeral_some top bs (record { digits = p.0.0; some = p.0.1; lead = lead }) (omega (arith, p.1)) ∙ ap Some (sym p.1)))
     (λ l. let m = lt-leb n top l in rw m (numeral_none top bs (λ _ f. omega (arith, p.1))))
     (cases_le n top)
 parse_is {E = E} top bs (Err e) h plus lead t =
-    let p = parse_plain own {E = E} 16 bs (Err e) h plus in
+    let p = parse_plain own {E = E} 64 bs (Err e) h plus in
     numeral_none top bs (λ k f. p (k.digits, k.some, omega arith))

@@ -1,9 +1,12 @@
 -- A colon ends a field, and the place of what stands around it.
-use Rattle.std.proofs.Common.{◌≡◌, ℕ, suc, ◌+◌, ◌-◌, ◌<◌, ◌≤◌, eqb, List, [], ◌∷◌, ◌++◌, length, get_or, take, drop, Some, None, Option, sym, refl, ap, ◌∙◌, append_assoc, arith, length-append, Bor, MatchOption}
+use Rattle.std.proofs.Common.{◌≡◌, ℕ, suc, ◌+◌, ◌-◌, ◌<◌, ◌≤◌, eqb, List, [], ◌∷◌, ◌++◌, length, get_or, take, drop, Some, None, is_some, not, Option, sym, refl, ap, ◌∙◌, append_assoc, arith, length-append, Bor, MatchOption}
 use Rattle.std.proofs.lemmas.List.{take_at, take-take, drop_at, drop-drop, drop-take}
 use Rattle.std.proofs.lemmas.Str.Pattern.{IsSplitOnceResult, split_parts}
 use Rattle.std.proofs.lemmas.Bool.{ne_eqb, cond_both}
+use Rattle.std.specs.Iterator.{YieldsFirstBy, MakesProgress, item_count}
+use Rattle.field.specs.declared.part.Part.{Part}
 use Rattle.field.specs.Fields.{fields, onto}
+use Rattle.field.specs.Parts.{part_bytes, fields_in}
 
 -- the byte c is not in bs
 abbrev pub Free : ℕ → List ℕ → Type 0
@@ -66,3 +69,13 @@ module _ (packet text f behind : List ℕ) (end : ℕ) (e : text ≡ f ++ (58 �
       ap (drop n) (h.1 ∙ ap (λ k. take k (drop start packet)) l) ∙ drop-take n (length behind) (drop start packet) in
       let k : end - length text + (length f + 1) ≡ end - length behind = omega arith in
       (omega arith, sym a ∙ b ∙ ap (take (length behind)) (drop-drop n start packet ∙ ap (λ m. drop m packet) k))
+
+-- no field is left just where there is no rest
+pub none_left : (o : Option Part) → not (is_some o) ≡ eqb (length (fields_in o)) 0
+none_left None = refl
+none_left (Some p) = sym (ne_eqb (length (fields (part_bytes p))) 0 (λ e. omega (arith, fields_some (part_bytes p))))
+
+-- a cursor that hands out the first of what is left comes to its end
+pub progress : {S A B : Type 0} (view : A → B) (rest : S → List B) (s : S) (r : Option A) (t : S) → YieldsFirstBy view rest s r t → MakesProgress (λ _. Unit {0}) (item_count rest) s r t
+progress view rest s None t h = record { on = λ _. tt; keeps = tt; rests = λ _. tt }
+progress view rest s (Some x) t h = record { on = λ _. (tt, tt, omega (arith, ap length h)); keeps = tt; rests = λ _. tt }

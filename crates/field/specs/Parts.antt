@@ -1,5 +1,6 @@
 -- Parts of a packet, and the fields that a cursor has still to hand out.
 use Rattle.std.specs.Prelude.{◌≡◌, ℕ, ◌-◌, ◌≤◌, List, [], length, take, drop, Some, None, Ok, Err, Option, Result}
+use Rattle.std.specs.Iterator.{YieldsFirstBy}
 use Rattle.protocol.specs.declared.refusal.Refusal.{Refusal}
 use Rattle.field.specs.declared.part.Part.{Part}
 use Rattle.field.specs.declared.fields.Fields.{Fields}
@@ -42,6 +43,11 @@ fields_in (Some p) = fields (part_bytes p)
 -- the fields that a cursor has still to hand out
 abbrev pub fields_left : Fields → List (List ℕ)
 fields_left f = fields_in f.rest
+
+-- a cursor handed out the first of them, or came to its end; in whichever packet it stood before, the part stands, and so does
+-- the cursor after
+abbrev pub HandsOut : Fields → Option Part → Fields → Type 0
+HandsOut before field after = YieldsFirstBy part_bytes fields_left before field after × Hands before field × Onward before after
 
 -- the same of a reading that may be refused
 abbrev pub told_fields : Result Fields Refusal → Result (List (List ℕ)) Refusal

@@ -1,8 +1,7 @@
 //! A cursor over the fields of a packet.
-ghost use Rattle.std.specs.Prelude.{◌≡◌, length, drop, ◌==◌};
-ghost use Rattle.std.specs.Option.{option_map};
-ghost use Rattle.field.specs.Fields.{first};
-ghost use Rattle.field.specs.Parts.{part_bytes, fields_left, Hands, Onward};
+ghost use Rattle.std.specs.Prelude.{◌≡◌, length, ◌==◌};
+ghost use Rattle.std.specs.Iterator.{item_count};
+ghost use Rattle.field.specs.Parts.{fields_left, HandsOut};
 
 use crate::part::Part;
 
@@ -12,24 +11,24 @@ pub struct Fields<'a> {
     pub rest: Option<Part<'a>>,
 }
 
-impl<'a> Fields<'a> {
+impl Fields<'_> {
     /// Whether no field is left.
     pub fn is_empty(&self) -> bool
         ensures { result ≡ (length (fields_left self.now) == 0) }
     {
-        match self.rest {
-            Some(_) => false,
-            None => true,
-        }
+        self.rest.is_none()
     }
+}
 
-    /// The next field, with its place.
-    pub fn next_field(&mut self) -> Option<Part<'a>>
-        ensures field { option_map part_bytes result ≡ first (fields_left self.old) }
-        ensures after { fields_left self.new ≡ drop 1 (fields_left self.old) }
-        ensures place { Hands self.old result }
-        ensures onward { Onward self.old self.new }
-    {
+/// The fields one after the other, each with its place.
+impl<'a> Iterator for Fields<'a> {
+    type Item = Part<'a>;
+
+    ghost next_gives = { HandsOut };
+
+    ghost remaining = { item_count fields_left };
+
+    fn next(&mut self) -> Option<Part<'a>> {
         let rest = self.rest?;
         match rest.text.split_once(':') {
             Some((text, behind)) => {

@@ -13,30 +13,17 @@ use std::str::from_utf8;
 fn is_plain(bytes: &[u8]) -> bool
     ensures { result ≡ plain bytes.now }
 {
-    for b in bytes {
-        if *b == b'{' || *b == b'}' {
-            return false;
-        }
-    }
-    true
+    !bytes.iter().any(|b| *b == b'{' || *b == b'}')
 }
 
 /// What stands between the two braces of a packet that has no others.
 fn inside_of(packet: &[u8]) -> Option<&[u8]>
     ensures { option_map (λ x. x.now) result ≡ (if framed packet.now then Some (inside packet.now) else None) }
 {
-    let n = packet.len();
-    if n < 2 {
-        return None;
+    match packet {
+        [b'{', body @ .., b'}'] if is_plain(body) => Some(body),
+        _ => None,
     }
-    if packet[0] != b'{' {
-        return None;
-    }
-    if packet[n - 1] != b'}' {
-        return None;
-    }
-    let body = &packet[1..n - 1];
-    if is_plain(body) { Some(body) } else { None }
 }
 
 /// The fields of a packet of at most 512 bytes that is framed and UTF-8.
@@ -47,12 +34,8 @@ pub fn fields_of(packet: &[u8]) -> Result<Fields<'_>, Refusal>
     if packet.len() > 512 {
         return Err(Refusal::TooLong);
     }
-    let Some(body) = inside_of(packet) else {
-        return Err(Refusal::Frame);
-    };
-    let Ok(text) = from_utf8(body) else {
-        return Err(Refusal::NotUtf8);
-    };
+    let body = inside_of(packet).ok_or(Refusal::Frame)?;
+    let text = from_utf8(body).map_err(|_| Refusal::NotUtf8)?;
     let end = packet.len() - 1;
     let rest = Some(Part { text, end });
     Ok(Fields { rest })
