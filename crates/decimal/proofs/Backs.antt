@@ -195,7 +195,7 @@ module _ (s : Bool) (D : ℕ) (n : D % 10 ≡ 0 → ⊥) (l : D < 10 ^ 18) (ds :
 
 not_minus : (s : Bool) (xs : List ℕ) (d : Real) → unsigned_of s xs ≡ Some d → get_or xs 0 0 ≡ 45 → ⊥
 not_minus s [] d u e = omega arith
-not_minus s (c ∷ cs) d u e = let z : ◌≡◌ {A = ℕ} 0 1 = cc (rw e at u) in omega arith
+not_minus s (c ∷ cs) d u e = cc (rw e at u)
 
 signed_back : (s : Bool) (xs : List ℕ) (d : Real) → unsigned_of s xs ≡ Some d → decimal_of (sign_text s ++ xs) ≡ Some d
 signed_back true xs d u = u

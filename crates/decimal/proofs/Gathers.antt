@@ -11,11 +11,11 @@ use Rattle.std.proofs.lemmas.Bool.Decides.{nat_tests}
 use Rattle.decimal.specs.Gather.{TooLong}
 use Rattle.protocol.proofs.Digits.{own}
 
-pub zero_more : (d z : ℕ) → d * 10 ^ (z + 1) ≡ d * 10 ^ z * 10
-zero_more d z = ap (λ x. d * 10 ^ x) (add-one z) ∙ ap (λ x. d * x) (pow-suc 10 z) ∙ sym (mul_assoc d (10 ^ z) 10)
-
 pub shift : (c t : ℕ) → c * 10 ^ suc t ≡ c * 10 ^ t * 10
 shift c t = ap (λ x. c * x) (pow-suc 10 t) ∙ sym (mul_assoc c (10 ^ t) 10)
+
+pub zero_more : (d z : ℕ) → d * 10 ^ (z + 1) ≡ d * 10 ^ z * 10
+zero_more d z = ap (λ x. d * 10 ^ x) (add-one z) ∙ shift d z
 
 pub long_here : (m d : ℕ) → 0 < d → d < 10 → 10 ^ 18 ≤ m * 10 + d → TooLong (m * 10 + d)
 long_here m d p q l c zero e = omega arith

@@ -1,9 +1,8 @@
 -- The forms of a spelling, each where its arm is taken.
-use Rattle.std.proofs.Common.{◌≡◌, ℕ, suc, ◌+◌, ◌-◌, ◌^◌, ◌<◌, ◌≤◌, true, false, List, ◌∷◌, ◌++◌, length, take, drop, replicate, ℤ, pos, negsuc, ◌+ℤ◌, nat_abs, ◌≤ℤ◌, refl, ap, ◌∙◌, append_assoc, arith, w16, SFits, to_z, of_z}
-use mir.Val.{hbits}
+use Rattle.std.proofs.Common.{◌≡◌, ℕ, suc, ◌+◌, ◌-◌, ◌^◌, ◌<◌, ◌≤◌, true, false, List, ◌∷◌, ◌++◌, length, take, drop, replicate, ℤ, pos, negsuc, ◌+ℤ◌, nat_abs, ◌≤ℤ◌, sym, refl, ap, ◌∙◌, append_assoc, arith, w16, SFits, to_z, of_z}
 use Rattle.std.proofs.lemmas.List.{length-append, length-replicate, append-nil}
 use Rattle.std.proofs.lemmas.Bool.{cond-true, cond-false, lt-ltb, le-ltb}
-use Rattle.std.proofs.lemmas.Int.{ints, to_z-of_z, to_z_pos}
+use Rattle.std.proofs.lemmas.Int.{ints, to_z-of_z}
 use Rattle.decimal.specs.Spelling.{pointed, in_fixed, placed, power_text}
 
 pub place_below : (p : ℤ) (ds : List ℕ) → negsuc 3 ≤ℤ p → p ≤ℤ negsuc 0 → placed p ds ≡ 48 ∷ 46 ∷ (replicate (nat_abs p - 1) 48 ++ ds)
@@ -48,9 +47,18 @@ fits16 (pos n) a b = record { sfits = omega (arith, ints) }
 fits16 (negsuc n) a b = record { sfits = omega (arith, ints) }
 
 -- a sum of small numbers, as the code computes it
-pub sum16 : (e : ℤ) (n : ℕ) → negsuc 399 ≤ℤ e → e ≤ℤ pos 400 → n ≤ 99 → (SFits w16 (to_z w16 (of_z w16 e) +ℤ to_z w16 n)) × (to_z w16 (of_z w16 (to_z w16 (of_z w16 e) +ℤ to_z w16 n)) ≡ e +ℤ pos n)
-sum16 e n a b l =
-    let f : SFits w16 e = fits16 e (omega (arith, ints)) (omega (arith, ints)) in
-    let g : n < 2 ^ hbits w16 = omega arith in
-    let h : SFits w16 (e +ℤ pos n) = fits16 (e +ℤ pos n) (omega (arith, ints)) (omega (arith, ints)) in
-    simp (to_z-of_z, to_z_pos) (h, refl)
+pub sum_in : (z y : ℤ) → negsuc 1998 ≤ℤ z → z ≤ℤ pos 1999 → negsuc 99 ≤ℤ y → y ≤ℤ pos 99 → to_z w16 (of_z w16 (to_z w16 (of_z w16 z) +ℤ to_z w16 (of_z w16 y))) ≡ z +ℤ y
+sum_in z y a b d e =
+    let f : SFits w16 z = fits16 z (omega (arith, ints)) (omega (arith, ints)) in
+    let g : SFits w16 y = fits16 y (omega (arith, ints)) (omega (arith, ints)) in
+    let h : SFits w16 (z +ℤ y) = fits16 (z +ℤ y) (omega (arith, ints)) (omega (arith, ints)) in
+    simp to_z-of_z refl
+
+-- digits, and behind them the zeros up to the point
+pub padded : (p : ℤ) (text ds zs t u : List ℕ) (size : ℕ) → pos 0 ≤ℤ p → p ≤ℤ pos 9 → size ≡ nat_abs p → length ds ≤ size → zs ≡ replicate (size + 1 - length ds) 48 → t ≡ text ++ ds → u ≡ t ++ zs → u ≡ text ++ placed p ds
+padded p text ds zs t u size a b e l z s r =
+    r
+    ∙ ap (λ x. x ++ zs) s
+    ∙ append_assoc text ds zs
+    ∙ ap (λ x. text ++ (ds ++ x)) (z ∙ ap (λ n. replicate (n + 1 - length ds) 48) e)
+    ∙ ap (λ x. text ++ x) (sym (place_padded p ds a b (omega arith)))

@@ -1,5 +1,5 @@
 //! Exact decimals in a reach.
-ghost use Rattle.std.specs.Prelude.{◌≡◌, true};
+ghost use Rattle.std.specs.Prelude.{◌≡◌, true, ⊤};
 ghost use Rattle.decimal.specs.Range.{inside};
 
 use crate::normal::NormalReal;
@@ -18,6 +18,8 @@ pub struct Ranged<R: Reach> {
 // By hand, since no derive writes a `Clone` for a type parameter beside a ghost field.
 impl<R: Reach> Clone for Ranged<R> {
     ghost is_clone = { λ d copy. copy ≡ d };
+
+    ghost is_infallible = { λ _. ⊤ };
 
     fn clone(&self) -> Result<Self, AllocError> {
         Ok(*self)

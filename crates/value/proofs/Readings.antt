@@ -27,7 +27,7 @@ use Rattle.value.proofs.Signs.{signed_textual}
 use Rattle.value.proofs.Reals.{within_again}
 
 mapped_some : {A B : Type 0} (f : A → B) (o : Option A) (y : B) → option_map f o ≡ Some y → (x : A) × ((o ≡ Some x) × (f x ≡ y))
-mapped_some f None y e = let z : ◌≡◌ {A = ℕ} 0 1 = cc in absurd (omega arith)
+mapped_some f None y e = cc
 mapped_some f (Some x) y e = (x, (refl, cc))
 
 -- what a reading says of the text
@@ -35,7 +35,7 @@ pub read_textual : (k : Kind) (bs : List ℕ) (d : Datum) → value_read k bs �
 read_textual k bs d e =
     elim (cases_Bool (textual bs)) [
       | inl t ↦ t
-      | inr t ↦ let z : ◌≡◌ {A = ℕ} 0 1 = cc (sym (cond-false _ _ _ t) ∙ e) in absurd (omega arith)
+      | inr t ↦ cc (sym (cond-false _ _ _ t) ∙ e)
     ]
 
 pub reads_as : (k : Kind) (bs : List ℕ) (d : Datum) → value_read k bs ≡ Some d → read_as k bs ≡ Some d
@@ -127,7 +127,7 @@ pub text_made : (bs ts : List ℕ) → Some ts ≡ text_of bs → (textual bs �
 text_made bs ts e =
     elim (cases_Bool (textual bs)) [
       | inl t ↦ let s : Some ts ≡ Some bs = e ∙ cond-true _ _ _ t in (t, cc)
-      | inr t ↦ let z : ◌≡◌ {A = ℕ} 0 1 = cc (e ∙ cond-false _ _ _ t) in absurd (omega arith)
+      | inr t ↦ cc (e ∙ cond-false _ _ _ t)
     ]
 
 pub reading_valid : (k : Kind) (bs : List ℕ) (o : Option Value) → option_map datum_of o ≡ value_read k bs → IfSome o (λ v. Valid k (datum_of v))

@@ -42,9 +42,6 @@ tens_clear : (m : ℕ) → 0 < m → m < 10 ^ 40 → m / 10 ^ tens m % 10 ≡ 0 
 unfolding tens
 tens_clear m p l e = clear 40 m p l e
 
-none_some : {A : Type 0} {x : A} → None ≡ Some x → ⊥
-none_some e = let z : ◌≡◌ {A = ℕ} 0 1 = cc in omega arith
-
 form_parts : (d : Real) → d.digits < 10 ^ 18 → (d.digits % 10 ≡ 0 → ⊥) → in_form d ≡ true
 form_parts d l n = grind (arith, nat_tests)
 
@@ -60,7 +57,7 @@ normal_form s m x d l e =
                 let r : Some n ≡ Some d = sym (cond-true _ _ _ b) ∙ f in
                 let q : n ≡ d = cc in
                 subst (λ y. in_form y ≡ true) q (form_parts n (ltb-true _ _ b) (tens_clear m (omega (arith, eqb-false m 0 t)) l))
-            | inr b ↦ absurd (none_some (sym (cond-false _ _ _ b) ∙ f))
+            | inr b ↦ cc (sym (cond-false _ _ _ b) ∙ f)
           ]
     ]
 
@@ -68,7 +65,7 @@ run_parts : (ds : List ℕ) → length (take (run_of ds) ds) + length (drop (run
 run_parts ds = sym (length-append (take (run_of ds) ds) (drop (run_of ds) ds)) ∙ ap length (take-append-drop (run_of ds) ds)
 
 power_form : (s : Bool) (whole fraction : List ℕ) (o : Option ℤ) (d : Real) → all_ascii_digits whole ≡ true → all_ascii_digits fraction ≡ true → length whole + length fraction ≤ 40 → at_power s whole fraction o ≡ Some d → in_form d ≡ true
-power_form s whole fraction None d a b l e = absurd (none_some e)
+power_form s whole fraction None d a b l e = cc
 power_form s whole fraction (Some x) d a b l e =
     normal_form s (digits_value 10 (whole ++ fraction)) (x -ℤ pos (length fraction)) d
     (digits_value_short own (whole ++ fraction) 40 (all_append whole fraction a b) (simp length-append l))
@@ -77,7 +74,7 @@ power_form s whole fraction (Some x) d a b l e =
 point_form : (s : Bool) (whole rest : List ℕ) (d : Real) → all_ascii_digits whole ≡ true → length whole + length rest ≤ 40 → at_point s whole rest ≡ Some d → in_form d ≡ true
 point_form s whole rest d a l e =
     elim (cases_Bool (eqb (run_of rest) 0)) [
-      | inl t ↦ absurd (none_some (sym (cond-true _ _ _ t) ∙ e))
+      | inl t ↦ cc (sym (cond-true _ _ _ t) ∙ e)
       | inr t ↦ power_form s whole (take (run_of rest) rest) (power_read (drop (run_of rest) rest)) d a (run_digits rest) (omega (arith, run_parts rest)) (sym (cond-false _ _ _ t) ∙ e)
     ]
 
@@ -94,7 +91,7 @@ whole_form s whole rest d a l e =
 unsigned_form : (s : Bool) (bs : List ℕ) (d : Real) → length bs ≤ 40 → unsigned_of s bs ≡ Some d → in_form d ≡ true
 unsigned_form s bs d l e =
     elim (cases_Bool (eqb (run_of bs) 0)) [
-      | inl t ↦ absurd (none_some (sym (cond-true _ _ _ t) ∙ e))
+      | inl t ↦ cc (sym (cond-true _ _ _ t) ∙ e)
       | inr t ↦ whole_form s (take (run_of bs) bs) (drop (run_of bs) bs) d (run_digits bs) (omega (arith, run_parts bs)) (sym (cond-false _ _ _ t) ∙ e)
     ]
 
@@ -106,11 +103,11 @@ decimal_form bs d l e =
     ]
 
 passed : (test : Real → Bool) (o : Option Real) (d : Real) → passing test o ≡ Some d → (o ≡ Some d) × (test d ≡ true)
-passed test None d e = absurd (none_some e)
+passed test None d e = cc
 passed test (Some x) d e =
     elim (cases_Bool (test x)) [
       | inl t ↦ let r : Some x ≡ Some d = sym (cond-true _ _ _ t) ∙ e in let q : x ≡ d = cc in (r, subst (λ y. test y ≡ true) q t)
-      | inr t ↦ absurd (none_some (sym (cond-false _ _ _ t) ∙ e))
+      | inr t ↦ cc (sym (cond-false _ _ _ t) ∙ e)
     ]
 
 -- what a text reads as has a spelling that is a text and reads as the same

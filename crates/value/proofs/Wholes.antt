@@ -127,7 +127,7 @@ one_minus lo hi z cs f e =
           let p = from_plain cs u.0 in
           let n : digits_value 10 cs < 2 ^ 64 = omega (arith, ints, b.1) in
           spelled_minus (digits_value 10 cs) cs (decimal-digits_value own cs p.0 p.1 p.2 n) (grind (arith, nat_tests, u.1)) ∙ ap signed_decimal b.0
-      | inr t ↦ let z : ◌≡◌ {A = ℕ} 0 1 = cc (sym (cond-false _ _ _ t) ∙ e) in absurd (omega arith)
+      | inr t ↦ cc (sym (cond-false _ _ _ t) ∙ e)
     ]
 
 one_plain : (lo hi z : ℤ) (bs : List ℕ) → SFits w64 hi → starts_with_minus bs ≡ false → whole_of lo hi bs ≡ Some z → bs ≡ signed_decimal z
@@ -138,7 +138,7 @@ one_plain lo hi z bs g m e =
           let p = from_plain bs t in
           let n : digits_value 10 bs < 2 ^ 64 = omega (arith, ints, b.2) in
           sym (decimal-digits_value own bs p.0 p.1 p.2 n) ∙ ap signed_decimal b.0
-      | inr t ↦ let z : ◌≡◌ {A = ℕ} 0 1 = cc (sym (cond-false _ _ _ m ∙ cond-false _ _ _ t) ∙ e) in absurd (omega arith)
+      | inr t ↦ cc (sym (cond-false _ _ _ m ∙ cond-false _ _ _ t) ∙ e)
     ]
 
 -- and from no other text
@@ -198,12 +198,12 @@ converted {T} {E} number lo hi gives bs o a b law h = by_read (whole_of wide_lea
     by_read (Some n) (r, g, e) = ap (option_map number) e ∙ law n r g
 
 picked_none : {E : Type 0} (lo hi : ℤ) (r : Result ℤ E) → None ≡ result_ok r → picked lo hi r ≡ None
-picked_none lo hi (Ok z) e = let y : ◌≡◌ {A = ℕ} 0 1 = cc in absurd (omega arith)
+picked_none lo hi (Ok z) e = cc
 picked_none lo hi (Err d) e = refl
 
 picked_some : {E : Type 0} (lo hi n : ℤ) (r : Result ℤ E) → Some n ≡ result_ok r → picked lo hi r ≡ between lo hi n
 picked_some lo hi n (Ok z) e = let q : z ≡ n = cc in ap (between lo hi) q
-picked_some lo hi n (Err d) e = let y : ◌≡◌ {A = ℕ} 0 1 = cc in absurd (omega arith)
+picked_some lo hi n (Err d) e = cc
 
 pub wide_none : {E : Type 0} (bs : List ℕ) (r : Result ℤ E) → begins bs ≡ true → ParsesSigned w64 10 bs r → None ≡ result_ok r → whole_of wide_least wide_most bs ≡ None
 wide_none {E} bs r b h e = reads_whole {E = E} wide_least wide_most bs r (search rules) (search rules) b h ∙ picked_none wide_least wide_most r e

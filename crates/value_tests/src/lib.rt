@@ -93,25 +93,18 @@ St a} none
 Do 1000000000000000000000000000000000000000 1E+39
 ";
 
+    const THREE: &str = "a row has three words";
+
     fn reads(rt: &impl Abort, row: &str) -> Result<(), Fail> {
         let mut words = row.split(' ');
-        let (Some(kind), Some(text), Some(spelling)) = (words.next(), words.next(), words.next())
-        else {
-            return Err(Fail::new("a row has three words"));
-        };
-        let Some(kind) = Kind::named(kind) else {
-            return Err(Fail::new("no type"));
-        };
+        let kind = words.next().ok_or(THREE)?.parse::<Kind>()?;
+        let text = words.next().ok_or(THREE)?;
+        let spelling = words.next().ok_or(THREE)?;
         match read_value(kind, text.as_bytes()) {
-            Some(value) => {
-                assert!(rt; value.spelling().as_bytes() == spelling.as_bytes());
-                Ok(())
-            },
-            None => {
-                assert!(rt; spelling == "none");
-                Ok(())
-            },
+            Some(value) => assert!(rt; value.spelling().as_str() == spelling),
+            None => assert!(rt; spelling == "none"),
         }
+        Ok(())
     }
 
     #[test]

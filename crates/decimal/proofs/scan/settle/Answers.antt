@@ -2,7 +2,8 @@ use Rattle.std.proofs.Common.{◌≡◌, ℕ, Bool, ℤ, ◌*◌, ◌%◌, ◌^�
 use Rattle.std.proofs.lemmas.Int.{ints}
 use Rattle.decimal.specs.declared.real.Real.{Real}
 use Rattle.decimal.specs.Gather.{amount}
-use Rattle.decimal.proofs.Readings.{normal_is, normal_zero, sum_in}
+use Rattle.decimal.proofs.Readings.{normal_is, normal_zero}
+use Rattle.decimal.proofs.Reals.{sum_in}
 use Rattle.decimal.proofs.scan.settle.Goals as goal
 use Rattle.decimal.proofs.scan.settle.Goals.{then-c-eq0, else-c-eq0}
 

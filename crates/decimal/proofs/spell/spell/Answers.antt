@@ -2,13 +2,14 @@ use Rattle.std.proofs.Common.{◌≡◌, ℕ, ◌-◌, ◌^◌, ◌<◌, ◌≤�
 use Rattle.std.specs.Fmt.{sign_text}
 use Rattle.std.specs.Option.{option_map}
 use Rattle.std.proofs.lemmas.Bool.{cond-true}
+use Rattle.std.proofs.lemmas.Int.{ints}
 use Rattle.std.proofs.lemmas.Fmt.{decimal_nonempty, length-decimal-le}
 use Rattle.protocol.specs.Held.{text_bytes}
 use Rattle.protocol.specs.Texts.{text_of}
 use Rattle.decimal.specs.Spelling.{spelling, placed}
 use Rattle.decimal.proofs.Forms.{kept_by, spelled_textual}
 use Rattle.decimal.proofs.Readings.{some_made}
-use Rattle.decimal.proofs.Reals.{sum16}
+use Rattle.decimal.proofs.Reals.{sum_in}
 use Rattle.decimal.proofs.spell.spell.Goals as goal
 use Rattle.decimal.proofs.spell.spell.Goals.{After-format-digits, After-new, then-d, else-d}
 
@@ -41,7 +42,7 @@ written c k =
     ∙ c.as_str.ensures.value
     ∙ c.place.ensures
     ∙ ap (λ x. x ++ placed (to_z w16 (of_z w16 (to_z w16 (of_z w16 d.exponent) +ℤ to_z w16 (length ds - 1)))) ds) (signed_by c)
-    ∙ ap (λ x. sign_text d.negative ++ placed x ds) (sum16 d.exponent (length ds - 1) c.requires.0 c.requires.1 (omega arith)).1
+    ∙ ap (λ x. sign_text d.negative ++ placed x ds) (sum_in d.exponent (pos (length ds - 1)) (omega (arith, ints, c.requires.0)) (omega (arith, ints, c.requires.1)) (omega (arith, ints)) (omega (arith, ints)))
     ∙ ap (λ x. sign_text d.negative ++ placed (d.exponent +ℤ pos (length x - 1)) x) c.format-digits.ensures.text
 
 made : (c : goal.After-new) → length c.format-digits.result.now ≤ 18 → option_map text_bytes c.new.result ≡ Some (spelling c.args.d.real)
