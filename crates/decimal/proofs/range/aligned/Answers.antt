@@ -1,4 +1,4 @@
-use Rattle.std.proofs.Common.{◌≡◌, ◌-◌, ◌*◌, ◌^◌, ◌<◌, ◌≤◌, ap, ◌∙◌, sym, subst, arith}
+use Rattle.std.proofs.Common.{◌-◌, ◌*◌, ◌^◌, ◌<◌, ◌≤◌, sym, subst, arith}
 use Rattle.decimal.proofs.Sizes.{digits_below, filled, size_is}
 use Rattle.decimal.proofs.range.aligned.Goals as goal
 use Rattle.decimal.proofs.range.aligned.Goals.{After-ilog10-missing, After-pow}
