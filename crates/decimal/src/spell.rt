@@ -1,5 +1,5 @@
 //! The one spelling of a decimal.
-ghost use Rattle.std.specs.Prelude.{◌≡◌, ℕ, ◌+◌, ◌^◌, ◌<◌, ◌≤◌, ◌∷◌, ◌++◌, length, replicate, pos, negsuc, ◌≤ℤ◌, decimal, unsigned_abs, IsAscii};
+ghost use Rattle.std.specs.Prelude.{◌≡◌, ◌+◌, ◌<◌, ◌≤◌, ◌∷◌, ◌++◌, length, pos, negsuc, ◌≤ℤ◌, decimal, unsigned_abs, IsAscii};
 ghost use Rattle.arrayvec.specs.ArrayString.{array_string_len};
 ghost use Rattle.protocol.specs.Held.{text_bytes};
 ghost use Rattle.decimal.specs.Spelling.{spelling, power_text, placed, pointed};
