@@ -97,6 +97,7 @@ fn put_together(
         zeros: 0,
     };
     let all = nothing.append(whole)?.append(fraction)?;
+    // `as`, since no `From` goes from a length to an i16; it is proved to lose nothing.
     Some(settle(negative, all, power - fraction.bytes.len() as i16))
 }
 
