@@ -1,7 +1,6 @@
 -- The parts of a text that are read as a real.
-use Rattle.std.proofs.Common.{◌≡◌, ℕ, zero, suc, ◌+◌, ◌*◌, ◌/◌, ◌%◌, ◌^◌, ◌<◌, ◌≤◌, Bool, true, false, cond, ◌&&◌, eqb, ltb, List, [], ◌∷◌, ◌++◌, length, get_or, take, drop, ℤ, pos, negsuc, ◌+ℤ◌, ◌-ℤ◌, neg_ℤ, ◌≤ℤ◌, IfSome, Some, None, Ok, Err, IsSome, IsOk, MatchResult, Option, Result, ◌⊎◌, sym, refl, ap, ◌∙◌, inl, inr, mul_assoc, pow-suc, mul-div_cancel, add-one, one-add, arith, w16, SFits, to_z, of_z}
+use Rattle.std.proofs.Common.{◌≡◌, ℕ, zero, suc, ◌+◌, ◌*◌, ◌/◌, ◌%◌, ◌^◌, ◌<◌, ◌≤◌, Bool, true, false, cond, ◌&&◌, eqb, ltb, List, [], ◌∷◌, ◌++◌, length, take, ℤ, pos, negsuc, ◌+ℤ◌, ◌-ℤ◌, ◌≤ℤ◌, IfSome, Some, None, Ok, Err, IsSome, IsOk, MatchResult, Option, Result, ◌⊎◌, sym, refl, ap, ◌∙◌, inl, inr, mul-div_cancel, one-add, arith, w16, SFits, to_z, of_z}
 use native.Mathlib.Nat.{one-le-pow, zero-div}
-use lib.IntN.{+ℤ_idl}
 use mir.Val.{hbits}
 use Rattle.std.specs.List.{prefix_len}
 use Rattle.std.specs.Option.{option_map}
@@ -11,12 +10,10 @@ use Rattle.std.proofs.lemmas.Str.Parse.{parse_signed_digits, digits_value_short}
 use Rattle.protocol.proofs.Digits.{own}
 use Rattle.std.specs.Char.{is_ascii_digit, digit_value}
 use Rattle.std.specs.Str.{all_ascii_digits}
-use Rattle.std.proofs.lemmas.List.{at_drop_more}
 use Rattle.std.proofs.lemmas.Int.{ints, to_z-of_z, to_z_pos}
 use Rattle.std.proofs.lemmas.Bool.{cases_Bool, cases_lt, cond-true, cond-false, eq-eqb, ne_eqb, eqb-true, lt-ltb, le-ltb}
 use Rattle.std.proofs.lemmas.Bool.Decides.{nat_tests}
 use Rattle.decimal.specs.Gather.{TooLong}
-use Rattle.decimal.specs.Normal.{Normal, nought}
 use Rattle.decimal.specs.Reading.{run_of, tens_of, tens, normal, at_power, power_read, power_digits}
 use Rattle.decimal.proofs.Gathers.{shift}
 use Rattle.decimal.proofs.Reals.{fits16}

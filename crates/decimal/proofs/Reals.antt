@@ -1,5 +1,5 @@
 -- The forms of a spelling, each where its arm is taken.
-use Rattle.std.proofs.Common.{◌≡◌, ℕ, suc, ◌+◌, ◌-◌, ◌^◌, ◌<◌, ◌≤◌, true, false, List, ◌∷◌, ◌++◌, length, take, drop, replicate, ℤ, pos, negsuc, ◌+ℤ◌, nat_abs, ◌≤ℤ◌, sym, refl, ap, ◌∙◌, append_assoc, arith, w16, SFits, to_z, of_z}
+use Rattle.std.proofs.Common.{◌≡◌, ℕ, suc, ◌+◌, ◌-◌, ◌<◌, ◌≤◌, true, false, List, ◌∷◌, ◌++◌, length, take, drop, replicate, ℤ, pos, negsuc, ◌+ℤ◌, ◌-ℤ◌, nat_abs, ◌≤ℤ◌, sym, refl, ap, ◌∙◌, append_assoc, arith, w16, w64, SFits, to_z, of_z}
 use Rattle.std.proofs.lemmas.List.{length-append, length-replicate, append-nil}
 use Rattle.std.proofs.lemmas.Bool.{cond-true, cond-false, lt-ltb, le-ltb}
 use Rattle.std.proofs.lemmas.Int.{ints, to_z-of_z}
@@ -46,12 +46,24 @@ pub fits16 : (z : ℤ) → negsuc 9999 ≤ℤ z → z ≤ℤ pos 9999 → SFits 
 fits16 (pos n) a b = record { sfits = omega (arith, ints) }
 fits16 (negsuc n) a b = record { sfits = omega (arith, ints) }
 
+fits64 : (z : ℤ) → negsuc 99999 ≤ℤ z → z ≤ℤ pos 99999 → SFits w64 z
+fits64 (pos n) a b = record { sfits = omega (arith, ints) }
+fits64 (negsuc n) a b = record { sfits = omega (arith, ints) }
+
 -- a sum of small numbers, as the code computes it
 pub sum_in : (z y : ℤ) → negsuc 1998 ≤ℤ z → z ≤ℤ pos 1999 → negsuc 99 ≤ℤ y → y ≤ℤ pos 99 → to_z w16 (of_z w16 (to_z w16 (of_z w16 z) +ℤ to_z w16 (of_z w16 y))) ≡ z +ℤ y
 sum_in z y a b d e =
     let f : SFits w16 z = fits16 z (omega (arith, ints)) (omega (arith, ints)) in
     let g : SFits w16 y = fits16 y (omega (arith, ints)) (omega (arith, ints)) in
     let h : SFits w16 (z +ℤ y) = fits16 (z +ℤ y) (omega (arith, ints)) (omega (arith, ints)) in
+    simp to_z-of_z refl
+
+-- and a difference, with 64 bits
+pub difference64 : (z : ℤ) (m : ℕ) → negsuc 9999 ≤ℤ z → z ≤ℤ pos 9999 → m ≤ 17 → to_z w64 (of_z w64 (to_z w64 (of_z w64 z) -ℤ to_z w64 (of_z w64 (pos m)))) ≡ z -ℤ pos m
+difference64 z m a b l =
+    let f : SFits w64 z = fits64 z (omega (arith, ints)) (omega (arith, ints)) in
+    let g : SFits w64 (pos m) = fits64 (pos m) (omega (arith, ints)) (omega (arith, ints)) in
+    let h : SFits w64 (z -ℤ pos m) = fits64 (z -ℤ pos m) (omega (arith, ints)) (omega (arith, ints)) in
     simp to_z-of_z refl
 
 -- digits, and behind them the zeros up to the point

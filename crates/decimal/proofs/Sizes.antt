@@ -1,10 +1,10 @@
 -- Sizes of decimals, compared by 18 digits and a power of ten.
-use Rattle.std.proofs.Common.{◌≡◌, ℕ, suc, ◌+◌, ◌-◌, ◌*◌, ◌^◌, ◌<◌, ◌≤◌, true, eqb, ltb, leb, ℤ, pos, negsuc, ◌+ℤ◌, ◌-ℤ◌, nat_abs, ◌≤ℤ◌, Some, sym, refl, ap, ◌∙◌, inl, inr, mul-le-mul_right, mul_assoc, mul-le-mul, mul-lt-mul_of_pos_right, pow-suc, arith, pow-add, w16, SFits, to_z, of_z}
-use native.Mathlib.Nat.{pow-succ', pow-le-pow_right, one-le-pow}
+use Rattle.std.proofs.Common.{◌≡◌, ℕ, suc, ◌+◌, ◌-◌, ◌*◌, ◌^◌, ◌<◌, ◌≤◌, true, leb, ℤ, pos, negsuc, ◌+ℤ◌, ◌-ℤ◌, nat_abs, ◌≤ℤ◌, Some, sym, refl, ap, ◌∙◌, inl, inr, mul-le-mul_right, mul_assoc, mul-le-mul, mul-lt-mul_of_pos_right, pow-suc, arith, pow-add, w16, SFits, to_z, of_z, ◌<ℤ◌, Ordering}
+use native.Mathlib.Nat.{pow-le-pow_right, one-le-pow}
 use Rattle.std.proofs.lemmas.Int.{ints, to_z-of_z, by_lt_z}
-use Rattle.std.proofs.lemmas.Bool.{cases_lt, cases_eq, lt-ltb, le-leb, lt-leb, leb-true, ne_eqb}
-use Rattle.std.specs.Cmp.{nat_cmp_is}
-use Rattle.std.specs.Ordering.{is_le, is_some_and, nat_cmp, partial_ordering_then}
+use Rattle.std.proofs.lemmas.Bool.{cases_lt, cases_eq, le-leb, lt-leb, leb-true}
+use Rattle.std.specs.Cmp.{nat_cmp_is, int_cmp_is}
+use Rattle.std.specs.Ordering.{is_le, is_some_and, nat_cmp, int_cmp, partial_ordering_then}
 use Rattle.std.specs.declared.cmp.Ordering.TheVariants.{Less, Equal, Greater}
 use Rattle.decimal.specs.declared.real.Real.{Real}
 use Rattle.decimal.specs.Range.{above, at_most, size_of}
@@ -67,15 +67,13 @@ natural (negsuc n) h = absurd (omega (arith, ints))
 raised : (a k j m : ℕ) → k ≡ j + m → a * 10 ^ k ≡ a * 10 ^ j * 10 ^ m
 raised a k j m e = ap (λ x. a * 10 ^ x) e ∙ ap (λ x. a * x) (pow-add 10 j m) ∙ sym (mul_assoc a (10 ^ j) (10 ^ m))
 
--- the same size, m digits longer
-pub size_is : (d : Real) (m : ℕ) → negsuc 1099 ≤ℤ d.exponent → d.exponent ≤ℤ pos 1100 → m ≤ 17 → size_of d ≡ d.digits * 10 ^ m * 10 ^ (nat_abs (to_z w16 (of_z w16 (to_z w16 (of_z w16 d.exponent) +ℤ pos 1200))) - m)
+-- the same size, m digits longer, and the power of ten lower by m
+pub size_is : (d : Real) (m : ℕ) (p : ℤ) → negsuc 1099 ≤ℤ d.exponent → m ≤ 17 → p ≡ d.exponent -ℤ pos m → size_of d ≡ d.digits * 10 ^ m * 10 ^ nat_abs (p +ℤ pos 1200)
 unfolding size_of
-size_is d m a b l =
-    let f : SFits w16 d.exponent = fits16 d.exponent (omega (arith, ints)) (omega (arith, ints)) in
-    let h : SFits w16 (d.exponent +ℤ pos 1200) = fits16 (d.exponent +ℤ pos 1200) (omega (arith, ints)) (omega (arith, ints)) in
-    let g : to_z w16 (of_z w16 (to_z w16 (of_z w16 d.exponent) +ℤ pos 1200)) ≡ d.exponent +ℤ pos 1200 = simp to_z-of_z refl in
+size_is d m p a l e =
     let u = natural (d.exponent +ℤ pos 1200) (omega (arith, ints)) in
-    rw g (raised d.digits (nat_abs (d.exponent +ℤ pos 1200)) m (nat_abs (d.exponent +ℤ pos 1200) - m) (omega (arith, ints, u)))
+    let v = natural (p +ℤ pos 1200) (omega (arith, ints, e)) in
+    raised d.digits (nat_abs (d.exponent +ℤ pos 1200)) m (nat_abs (p +ℤ pos 1200)) (omega (arith, ints, u, v, e))
 
 -- sizes compare as the reals do
 pub sizes : (a b : Real) → negsuc 1099 ≤ℤ a.exponent → negsuc 1099 ≤ℤ b.exponent → leb (size_of a) (size_of b) ≡ at_most a b
@@ -120,31 +118,40 @@ near a b o s t =
     under (negsuc n) h = refl
 
 -- sizes that are aligned compare by their powers of ten first
-module _ (m n x y p q : ℕ) (e : m ≡ x * 10 ^ p) (f : n ≡ y * 10 ^ q) (a : (10 ^ 17 ≤ x) × (x < 10 ^ 18)) (b : (10 ^ 17 ≤ y) × (y < 10 ^ 18)) where
-  pub in_order : is_some_and is_le (partial_ordering_then (Some (nat_cmp p q)) (Some (nat_cmp x y))) ≡ leb m n
+module _ (m n x y : ℕ) (p q : ℤ) (e : m ≡ x * 10 ^ nat_abs (p +ℤ pos 1200)) (f : n ≡ y * 10 ^ nat_abs (q +ℤ pos 1200)) (l : negsuc 1199 ≤ℤ p) (h : negsuc 1199 ≤ℤ q) (a : (10 ^ 17 ≤ x) × (x < 10 ^ 18)) (b : (10 ^ 17 ≤ y) × (y < 10 ^ 18)) where
+  pub in_order : is_some_and is_le (partial_ordering_then (Some (int_cmp p q)) (Some (nat_cmp x y))) ≡ leb m n
   in_order =
-      elim (cases_lt p q) [
-        | inl l ↦
-            let k = lower x y p q a.1 b.0 l in
-            ap (λ o. is_some_and is_le (partial_ordering_then (Some o) (Some (nat_cmp x y)))) (sym (nat_cmp_is p q Less l)) ∙ sym (le-leb m n (omega arith))
-        | inr l ↦
-            elim (cases_eq p q) [
+      let j = nat_abs (p +ℤ pos 1200) in
+      let k = nat_abs (q +ℤ pos 1200) in
+      let u = natural (p +ℤ pos 1200) (omega (arith, ints)) in
+      let v = natural (q +ℤ pos 1200) (omega (arith, ints)) in
+      elim (cases_lt j k) [
+        | inl c ↦
+            let w : p <ℤ q = omega (arith, ints, u, v) in
+            let z = lower x y j k a.1 b.0 c in
+            by_first Less (int_cmp_is p q Less w) ∙ sym (le-leb m n (omega arith))
+        | inr c ↦
+            elim (cases_eq j k) [
               | inl g ↦
-                  let h : n ≡ y * 10 ^ p = f ∙ ap (λ z. y * 10 ^ z) (sym g) in
-                  ap (λ o. is_some_and is_le (partial_ordering_then (Some o) (Some (nat_cmp x y)))) (sym (nat_cmp_is p q Equal g)) ∙ level_order h
+                  let w : p ≡ q = omega (arith, ints, u, v) in
+                  by_first Equal (int_cmp_is p q Equal w) ∙ level_order (f ∙ ap (λ z. y * 10 ^ z) (sym g))
               | inr g ↦
-                  let h : q < p = omega arith in
-                  let k = lower y x q p b.1 a.0 h in
-                  ap (λ o. is_some_and is_le (partial_ordering_then (Some o) (Some (nat_cmp x y)))) (sym (nat_cmp_is p q Greater h)) ∙ sym (lt-leb m n (omega arith))
+                  let c : k < j = omega arith in
+                  let w : q <ℤ p = omega (arith, ints, u, v) in
+                  let z = lower y x k j b.1 a.0 c in
+                  by_first Greater (int_cmp_is p q Greater w) ∙ sym (lt-leb m n (omega arith))
             ]
       ]
     where
-      level_order : n ≡ y * 10 ^ p → is_le (nat_cmp x y) ≡ leb m n
+      by_first : (o : Ordering) → o ≡ int_cmp p q → is_some_and is_le (partial_ordering_then (Some (int_cmp p q)) (Some (nat_cmp x y))) ≡ is_some_and is_le (partial_ordering_then (Some o) (Some (nat_cmp x y)))
+      by_first o w = ap (λ o. is_some_and is_le (partial_ordering_then (Some o) (Some (nat_cmp x y)))) (sym w)
+
+      level_order : n ≡ y * 10 ^ nat_abs (p +ℤ pos 1200) → is_le (nat_cmp x y) ≡ leb m n
       level_order h =
           elim (cases_lt y x) [
-            | inl l ↦ let k = beyond x y p l in ap is_le (sym (nat_cmp_is x y Greater l)) ∙ sym (lt-leb m n (omega arith))
-            | inr l ↦
-                let k = level x y p l in
+            | inl c ↦ let k = beyond x y (nat_abs (p +ℤ pos 1200)) c in ap is_le (sym (nat_cmp_is x y Greater c)) ∙ sym (lt-leb m n (omega arith))
+            | inr c ↦
+                let k = level x y (nat_abs (p +ℤ pos 1200)) c in
                 elim (cases_eq x y) [
                   | inl g ↦ ap is_le (sym (nat_cmp_is x y Equal g)) ∙ sym (le-leb m n (omega arith))
                   | inr g ↦ let t : x < y = omega arith in ap is_le (sym (nat_cmp_is x y Less t)) ∙ sym (le-leb m n (omega arith))

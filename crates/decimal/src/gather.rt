@@ -1,7 +1,7 @@
 //! Digits gathered from the left into a coefficient of at most 18 digits.
-ghost use Rattle.std.specs.Prelude.{◌≡◌, ℕ, ◌+◌, ◌*◌, ◌^◌, ◌<◌, ◌≤◌, length, MatchOption};
+ghost use Rattle.std.specs.Prelude.{◌≡◌, ◌+◌, ◌*◌, ◌<◌, ◌≤◌, length};
 ghost use Rattle.std.specs.Str.Parse.{digits_value_after};
-ghost use Rattle.decimal.specs.Gather.{amount, TooLong};
+ghost use Rattle.decimal.specs.Gather.{amount, Gathered};
 
 use crate::coefficient::Coefficient;
 use crate::digits::Digits;
@@ -14,7 +14,7 @@ impl Coefficient {
     fn push(self, digit: u8) -> Option<Coefficient>
         requires digit { digit < 10 }
         requires room { self.zeros < 255 }
-        ensures { MatchOption result (TooLong (amount self * 10 + digit)) (λ c. (amount c ≡ amount self * 10 + digit) × (c.zeros ≤ self.zeros + 1)) }
+        ensures { Gathered (amount self * 10 + digit) (self.zeros + 1) result }
     {
         let zeros = self.zeros + 1;
         if digit == 0 {
@@ -46,7 +46,7 @@ impl Coefficient {
     /// The number with more digits behind it, if it still has at most 18 digits in front of its zeros.
     pub(crate) fn append(self, digits: Digits<'_>) -> Option<Coefficient>
         requires { self.zeros + length digits.bytes.now ≤ 255 }
-        ensures { MatchOption result (TooLong (digits_value_after 10 (amount self) digits.entry.bytes.now)) (λ c. (amount c ≡ digits_value_after 10 (amount self) digits.entry.bytes.now) × (c.zeros ≤ self.zeros + length digits.entry.bytes.now)) }
+        ensures { let ds = digits.entry.bytes.now in Gathered (digits_value_after 10 (amount self) ds) (self.zeros + length ds) result }
     {
         let mut number = self;
         for digit in digits.bytes {

@@ -1,5 +1,5 @@
 //! Reading and spelling exact decimals.
-ghost use Rattle.std.specs.Prelude.{◌≡◌, true, Some};
+ghost use Rattle.std.specs.Prelude.{◌≡◌, Some};
 ghost use Rattle.std.specs.Option.{option_map};
 ghost use Rattle.std.specs.Result.{result_ok};
 ghost use Rattle.protocol.specs.Held.{text_bytes};
@@ -20,7 +20,8 @@ use std::marker::PhantomData;
 impl<R: Reach> TryFrom<&Text> for Ranged<R> {
     type Error = Unknown;
 
-    ghost try_from_gives = { λ text r. option_map real_of (result_ok r) ≡ within_of R.LEAST R.MOST (text_bytes text.now) };
+    ghost try_from_gives = { λ text r.
+        option_map real_of (result_ok r) ≡ within_of R.LEAST R.MOST (text_bytes text.now) };
 
     fn try_from(text: &Text) -> Result<Ranged<R>, Unknown> {
         let real = read_real(text).ok_or(Unknown)?;

@@ -1,9 +1,9 @@
 //! Scanning a text for a real.
-ghost use Rattle.std.specs.Prelude.{◌≡◌, ℕ, ◌+◌, ◌*◌, ◌^◌, ◌<◌, ◌≤◌, true, length, take, drop, pos, negsuc, ◌≤ℤ◌, IfSome, Some};
+ghost use Rattle.std.specs.Prelude.{◌≡◌, ◌+◌, ◌≤◌, length, take, drop, pos, negsuc, ◌≤ℤ◌, IfSome, Some};
 ghost use Rattle.std.specs.Option.{option_map};
 ghost use Rattle.protocol.specs.Held.{text_bytes};
 ghost use Rattle.decimal.specs.Gather.{amount};
-ghost use Rattle.decimal.specs.Reading.{run_of, power_digits, power_read, normal, at_power, at_point, at_whole, unsigned_of, decimal_of};
+ghost use Rattle.decimal.specs.Reading.{run_of, power_digits, power_read, normal, at_power, at_point, unsigned_of, decimal_of};
 ghost use Rattle.decimal.specs.Views.{normal_real};
 
 use crate::coefficient::Coefficient;
@@ -88,7 +88,8 @@ fn put_together(
     rest: &[u8],
 ) -> Option<NormalReal>
     requires { length whole.bytes.now + length fraction.bytes.now ≤ 40 }
-    ensures { option_map normal_real result ≡ at_power negative whole.entry.bytes.now fraction.entry.bytes.now (power_read rest.now) }
+    ensures { option_map normal_real result
+        ≡ at_power negative whole.entry.bytes.now fraction.entry.bytes.now (power_read rest.now) }
 {
     let power = read_power(rest)?;
     let nothing = Coefficient {
@@ -96,6 +97,7 @@ fn put_together(
         zeros: 0,
     };
     let all = nothing.append(whole)?.append(fraction)?;
+    // `as`, since no `From` goes from a length to an i16; it is proved to lose nothing.
     Some(settle(negative, all, power - fraction.bytes.len() as i16))
 }
 

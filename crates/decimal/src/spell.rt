@@ -1,5 +1,5 @@
 //! The one spelling of a decimal.
-ghost use Rattle.std.specs.Prelude.{◌≡◌, ℕ, ◌+◌, ◌^◌, ◌<◌, ◌≤◌, ◌∷◌, ◌++◌, length, replicate, pos, negsuc, ◌≤ℤ◌, decimal, unsigned_abs, IsAscii};
+ghost use Rattle.std.specs.Prelude.{◌≡◌, ◌+◌, ◌<◌, ◌≤◌, ◌∷◌, ◌++◌, length, pos, negsuc, ◌≤ℤ◌, decimal, unsigned_abs, IsAscii};
 ghost use Rattle.arrayvec.specs.ArrayString.{array_string_len};
 ghost use Rattle.protocol.specs.Held.{text_bytes};
 ghost use Rattle.decimal.specs.Spelling.{spelling, power_text, placed, pointed};
@@ -25,8 +25,7 @@ fn power_sign(p: i16) -> &'static str
 
 /// Writes E and a power of ten.
 fn put_power(text: &mut ArrayString<40>, p: i16)
-    requires bounds { (negsuc 998 ≤ℤ p) × (p ≤ℤ pos 999) }
-    requires room { array_string_len text.old + 6 ≤ 40 }
+    requires { array_string_len text.old + 8 ≤ 40 }
     ensures { text.new.bytes ≡ text.old.bytes ++ (69 ∷ power_text p) }
 {
     let mut buffer = Buffer::new();
@@ -60,7 +59,6 @@ fn place(text: &mut ArrayString<40>, digits: &str, p: i16)
     requires few { length digits.now ≤ 18 }
     requires ascii { IsAscii digits.now }
     requires room { array_string_len text.old ≤ 1 }
-    requires bounds { (negsuc 998 ≤ℤ p) × (p ≤ℤ pos 999) }
     ensures { text.new.bytes ≡ text.old.bytes ++ placed p digits.now }
 {
     let size = usize::from(p.unsigned_abs());
@@ -93,6 +91,7 @@ pub(crate) fn spell(d: NormalReal) -> Text
     }
     let mut buffer = Buffer::new();
     let digits = buffer.format(d.real.digits);
+    // `as`, since no `From` goes from a length to an i16; it is proved to lose nothing.
     let places = (digits.len() - 1) as i16;
     place(&mut text, digits, d.real.exponent + places);
     Text::new(text.as_str().as_bytes()).unwrap()

@@ -3,7 +3,7 @@
 --     value_valid    what a station holds is a value of its type
 --     valid_textual  the spelling of a value is a text
 --     valid_apart    two values have two spellings
-use Rattle.std.proofs.Common.{◌≡◌, ℕ, ◌^◌, ◌<◌, Bool, true, false, cond, List, ℤ, pos, negsuc, ◌≤ℤ◌, IfSome, Some, None, Option, sym, refl, ap, ◌∙◌, subst, inl, inr, arith, w16, w32, w64, SFits, rules}
+use Rattle.std.proofs.Common.{◌≡◌, ℕ, ◌^◌, ◌<◌, Bool, true, false, cond, List, ℤ, pos, negsuc, ◌≤ℤ◌, IfSome, Some, None, Option, sym, refl, ap, ◌∙◌, subst, inl, inr, w16, w32, w64, SFits, rules}
 use lib.Utf8.{encode}
 use Rattle.std.specs.Option.{option_map}
 use Rattle.std.specs.Fmt.{signed_decimal}

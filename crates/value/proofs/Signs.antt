@@ -1,18 +1,13 @@
 -- The spelling of a whole number: that it is a text, and that it is written as a sign and digits.
-use Rattle.std.proofs.Common.{◌≡◌, ℕ, suc, ◌+◌, ◌-◌, ◌≤◌, true, false, cond, List, [], ◌∷◌, ◌++◌, length, take, ℤ, pos, negsuc, nat_abs, decimal, sym, refl, ap, ◌∙◌, arith, length-append, w64, SFits}
-use lib.Signed.{lt_z}
+use Rattle.std.proofs.Common.{◌≡◌, ℕ, suc, ◌≤◌, true, List, [], ◌∷◌, length, ℤ, pos, negsuc, decimal, refl, arith, w64, SFits}
 use Rattle.std.specs.Fmt.{signed_decimal}
 use Rattle.std.specs.Str.{all_ascii_digits}
 use Rattle.std.proofs.lemmas.Fmt.{digits_decimal, decimal_nonempty, length_signed_le, IsAscii-signed}
-use Rattle.std.proofs.lemmas.List.{take_at}
-use Rattle.std.proofs.lemmas.Int.{ints}
-use Rattle.std.proofs.lemmas.Bool.{and_from, cond-true, le-leb}
+use Rattle.std.proofs.lemmas.Bool.{and_from, le-leb}
 use Rattle.std.proofs.lemmas.Str.{IsUtf8-from_ascii}
 use Rattle.std.proofs.lemmas.Bool.Decides.{nat_tests}
-use Rattle.protocol.specs.Rows.{put_at, fits}
 use Rattle.protocol.specs.Texts.{free, sized, textual}
 use Rattle.protocol.proofs.PlainText.{utf8_decides}
-use Rattle.protocol.proofs.Writes.{put_put, length_put}
 use Rattle.protocol.proofs.Digits.{own}
 
 free_digits : (ds : List ℕ) → all_ascii_digits ds ≡ true → free ds ≡ true

@@ -1,5 +1,5 @@
 //! Reading a value from a text. All whole numbers are read by one reader, each into its own type.
-ghost use Rattle.std.specs.Prelude.{◌≡◌, IfSome, Some};
+ghost use Rattle.std.specs.Prelude.{◌≡◌, IfSome};
 ghost use Rattle.std.specs.Option.{option_map};
 ghost use Rattle.protocol.specs.Held.{text_bytes};
 ghost use Rattle.value.specs.Values.{truth_of, read_as, value_read, Valid};

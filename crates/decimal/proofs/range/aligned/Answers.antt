@@ -1,4 +1,6 @@
-use Rattle.std.proofs.Common.{◌≡◌, ◌-◌, ◌*◌, ◌^◌, ◌<◌, ◌≤◌, ap, ◌∙◌, sym, subst, arith}
+use Rattle.std.proofs.lemmas.Int.{ints, to_z-of_z}
+use Rattle.decimal.proofs.Reals.{fits16, difference64}
+use Rattle.std.proofs.Common.{pos, ◌-ℤ◌, refl, w16, SFits, ◌-◌, ◌*◌, ◌^◌, ◌<◌, ◌≤◌, sym, subst, arith}
 use Rattle.decimal.proofs.Sizes.{digits_below, filled, size_is}
 use Rattle.decimal.proofs.range.aligned.Goals as goal
 use Rattle.decimal.proofs.range.aligned.Goals.{After-ilog10-missing, After-pow}
@@ -20,8 +22,13 @@ overflow_mul-result c = let f = full (goal.at.overflow_mul-result c).After-pow i
 
 pub returns-clause-same : goal.returns-clause-same
 returns-clause-same c =
-    let m = 17 - c.ilog10-missing.result in
-    rw c.pow.ensures (size_is c.args.d m c.requires.bounds.0 c.requires.bounds.1 (omega arith))
+    let d = c.args.d in
+    let k = c.ilog10-missing.result in
+    let m = 17 - k in
+    let s = size_is d m (d.exponent -ℤ pos m) c.requires.bounds.0 (omega arith) refl in
+    let a : SFits w16 d.exponent = fits16 d.exponent (omega (arith, ints, c.requires.bounds.0)) (omega (arith, ints, c.requires.bounds.1)) in
+    let x = simp to_z-of_z at c.from.ensures in
+    rw (c.pow.ensures, x, c.from-2.ensures, difference64 d.exponent m (omega (arith, ints, c.requires.bounds.0)) (omega (arith, ints, c.requires.bounds.1)) (omega arith)) s
 
 pub returns-clause-full : goal.returns-clause-full
 returns-clause-full c = full (goal.at.returns-clause-full c).After-pow

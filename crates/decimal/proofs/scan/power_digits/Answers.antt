@@ -1,4 +1,4 @@
-use Rattle.std.proofs.Common.{◌≡◌, ◌-◌, ◌<◌, ◌≤◌, length, take, pos, ◌≤ℤ◌, IfSome, inl, inr, sym, ap, ◌∙◌, subst, arith, w16}
+use Rattle.std.proofs.Common.{◌≡◌, ◌-◌, ◌<◌, length, take, pos, ◌≤ℤ◌, IfSome, inl, inr, sym, ap, ◌∙◌, subst, arith, w16}
 use Rattle.std.specs.Option.{option_map}
 use Rattle.std.specs.Str.Parse.{ParsesSigned}
 use Rattle.std.proofs.lemmas.List.{length-drop, take_all}

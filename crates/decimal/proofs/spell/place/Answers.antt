@@ -1,4 +1,4 @@
-use Rattle.std.proofs.Common.{◌≡◌, ℕ, ◌+◌, ◌-◌, ◌≤◌, length, replicate, pos, nat_abs, ◌≤ℤ◌, ap, ◌∙◌, arith, rules}
+use Rattle.std.proofs.Common.{◌≡◌, ℕ, ◌+◌, ◌-◌, ◌≤◌, length, pos, nat_abs, ◌≤ℤ◌, ◌∙◌, arith, rules}
 use Rattle.std.proofs.lemmas.List.{take-replicate}
 use Rattle.decimal.proofs.Reals.{padded}
 use Rattle.decimal.proofs.spell.place.Goals as goal

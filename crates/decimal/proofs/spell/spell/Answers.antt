@@ -1,4 +1,4 @@
-use Rattle.std.proofs.Common.{◌≡◌, ℕ, ◌-◌, ◌^◌, ◌<◌, ◌≤◌, ◌++◌, length, pos, negsuc, ◌+ℤ◌, ◌≤ℤ◌, Some, decimal, sym, ap, ◌∙◌, arith, w16, to_z, of_z, rules}
+use Rattle.std.proofs.Common.{◌≡◌, ◌-◌, ◌^◌, ◌<◌, ◌≤◌, ◌++◌, length, pos, ◌+ℤ◌, Some, sym, ap, ◌∙◌, arith, w16, to_z, of_z, rules}
 use Rattle.std.specs.Fmt.{sign_text}
 use Rattle.std.specs.Option.{option_map}
 use Rattle.std.proofs.lemmas.Bool.{cond-true}

@@ -1,5 +1,4 @@
-use Rattle.std.proofs.Common.{◌^◌, ◌<◌, true, false, pos, ap, ◌∙◌, arith, w16, w32, w64, SFits, rules}
-use Rattle.std.specs.Fmt.{signed_decimal}
+use Rattle.std.proofs.Common.{◌^◌, ◌<◌, true, false, pos, w16, w32, w64, SFits, rules}
 use Rattle.std.proofs.lemmas.Int.{to_z-of_z}
 use Rattle.protocol.specs.Held.{text_bytes}
 use Rattle.value.specs.Meant.{number_of}
