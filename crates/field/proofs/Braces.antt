@@ -1,5 +1,5 @@
 -- Braces and UTF-8.
-use Rattle.std.proofs.Common.{◌≡◌, ℕ, ◌+◌, ◌-◌, ◌<◌, ◌≤◌, Bool, true, false, cond, not, ◌&&◌, ◌||◌, eqb, leb, ◌⊎◌, List, [], ◌∷◌, ◌++◌, length, get_or, take, drop, Some, None, Ok, Err, IsUtf8, Result, MatchResult, is_ok, sym, refl, ap, ◌∙◌, subst, ⊎_elim, arith, length-drop, length-take}
+use Rattle.std.proofs.Common.{◌≡◌, ℕ, ◌+◌, ◌-◌, ◌<◌, ◌≤◌, Bool, true, false, cond, not, ◌&&◌, ◌||◌, eqb, leb, ◌⊎◌, List, [], ◌∷◌, ◌++◌, length, get_or, take, drop, Some, None, Ok, Err, IsUtf8, sym, refl, ap, ◌∙◌, subst, ⊎_elim, arith, length-drop, length-take}
 use Rattle.std.specs.List.{list_any}
 use Rattle.std.specs.Bool.{◌==◌}
 use Rattle.std.proofs.lemmas.List.{at_drop_more, drop_more, take_more, get_or-drop, take_all}
@@ -90,8 +90,3 @@ module _ (bs body : List ℕ) (short : length bs ≤ 512) (e : Some body ≡ con
       let l : length text ≡ length bs - 1 - 1 = ap length same ∙ length-take (length bs - 1 - 1) (drop 1 bs) ∙ omega (arith, length-drop 1 bs) in
       let one : length bs - 1 - length text ≡ 1 = omega arith in
       (omega arith, rw (one, l) same)
-
--- what `map_err` passes on was there
-pub ok_of : {X E : Type 0} (F : Type 0) (Q : E → Type 0) (r : Result X E) (x : X) → MatchResult r (λ y. ◌≡◌ {A = Result X F} (Ok x) (Ok y)) Q → true ≡ is_ok r → r ≡ Ok x
-ok_of F Q (Ok y) x e k = cc
-ok_of F Q (Err y) x e k = cc

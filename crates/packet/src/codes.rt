@@ -38,6 +38,6 @@ impl<'a> Group<'a> for CodeGroup {
     ghost part = { λ _. None };
 
     fn read(fields: &mut Fields<'a>) -> Result<Code, u8> {
-        code_in(fields.next_field()).ok_or(0)
+        code_in(fields.next()).ok_or(0)
     }
 }

@@ -15,10 +15,10 @@ pub(crate) fn read_discovery(payload: Part<'_>) -> Result<(), u8>
     let mut fields = Fields {
         rest: Some(payload),
     };
-    if !is_word(fields.next_field(), "2") {
+    if !is_word(fields.next(), "2") {
         return Err(4);
     }
-    if !is_word(fields.next_field(), "3") {
+    if !is_word(fields.next(), "3") {
         return Err(5);
     }
     if !fields.is_empty() {

@@ -25,7 +25,7 @@ pub struct Head {
 fn version_beside(command: Option<Part<'_>>, version: Option<Part<'_>>) -> Option<Version>
     ensures { result ≡ version_beside (option_map part_bytes command.entry) (option_map part_bytes version.entry) }
 {
-    match Version::named(version?.text)? {
+    match version?.text.parse().ok()? {
         Version::V10 => {
             if is_word(command, "3") {
                 None
@@ -41,7 +41,7 @@ fn version_beside(command: Option<Part<'_>>, version: Option<Part<'_>>) -> Optio
 fn direction_in(field: Option<Part<'_>>) -> Option<Direction>
     ensures { result ≡ ruled direction_named (option_map part_bytes field.entry) }
 {
-    Direction::named(field?.text)
+    field?.text.parse().ok()
 }
 
 /// The head of these four fields, or the refusal of the first at fault.
@@ -57,7 +57,7 @@ fn head_by(
     let direction = direction_in(direction).ok_or(Refusal::Head(1))?;
     let number = number_in(number, 65535).ok_or(Refusal::Head(2))?;
     let command = number_in(command, 255).ok_or(Refusal::Head(3))?;
-    let command = Command::numbered(command).ok_or(Refusal::Command(3))?;
+    let command = Command::try_from(command).map_err(|_| Refusal::Command(3))?;
     Ok(Head {
         version,
         direction,
@@ -72,9 +72,9 @@ pub(crate) fn read_head(fields: &mut Fields<'_>) -> Result<Head, Refusal>
     ensures after { fields_left fields.new ≡ drop 4 (fields_left fields.old) }
     ensures onward { Onward fields.old fields.new }
 {
-    let version = fields.next_field();
-    let direction = fields.next_field();
-    let number = fields.next_field();
-    let command = fields.next_field();
+    let version = fields.next();
+    let direction = fields.next();
+    let number = fields.next();
+    let command = fields.next();
     head_by(version, direction, number, command)
 }

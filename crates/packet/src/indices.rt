@@ -36,6 +36,6 @@ impl<'a> Group<'a> for IndexGroup {
     ghost part = { λ _. None };
 
     fn read(fields: &mut Fields<'a>) -> Result<u16, u8> {
-        number_in(fields.next_field(), 65535).ok_or(0)
+        number_in(fields.next(), 65535).ok_or(0)
     }
 }

@@ -87,11 +87,8 @@ impl<'a> Packet<'a> {
         ensures field { option_map part_bytes result ≡ first (drop k (fields_left self.now.fields)) }
         ensures place { Hands self.now.fields result }
     {
-        let mut rest = self.fields;
-        for _i in 0..k {
-            let _ = rest.next_field();
-        }
-        rest.next_field()
+        let mut fields = self.fields;
+        fields.nth(usize::from(k))
     }
 }
 

@@ -94,9 +94,9 @@ impl<'a> Group<'a> for ReadingGroup {
     ghost part = { reading_part };
 
     fn read(fields: &mut Fields<'a>) -> Result<Reading<'a>, u8> {
-        let code = fields.next_field();
-        let word = fields.next_field();
-        let text = fields.next_field();
+        let code = fields.next();
+        let word = fields.next();
+        let text = fields.next();
         reading_by(code, word, text)
     }
 }

@@ -23,7 +23,8 @@ pub(crate) fn is_word(field: Option<Part<'_>>, word: &str) -> bool
 pub(crate) fn number_in(field: Option<Part<'_>>, top: u16) -> Option<u16>
     ensures { result ≡ ruled (numeral top) (option_map part_bytes field.entry) }
 {
-    number(field?.text, top)
+    let number = number(field?.text, u64::from(top))?;
+    u16::try_from(number).ok()
 }
 
 /// The field, if it has 1 to 40 bytes.

@@ -45,8 +45,8 @@ impl<'a> Group<'a> for WriteGroup {
     ghost part = { λ write. Some write.text };
 
     fn read(fields: &mut Fields<'a>) -> Result<Write<'a>, u8> {
-        let index = number_in(fields.next_field(), 65535).ok_or(0)?;
-        let text = text_in(fields.next_field()).ok_or(1)?;
+        let index = number_in(fields.next(), 65535).ok_or(0)?;
+        let text = text_in(fields.next()).ok_or(1)?;
         Ok(Write { index, text })
     }
 }

@@ -1,7 +1,8 @@
 use Rattle.std.proofs.Common.{Some, sym, ap, ◌≡◌, ◌∙◌, arith}
 use Rattle.std.specs.Option.{option_map}
 use Rattle.std.proofs.lemmas.Result.{MatchResult-at_ok}
-use Rattle.field.proofs.Braces.{ok_of, fields_there, no_text, body_ends}
+use Rattle.field.proofs.Braces.{fields_there, no_text, body_ends}
+use Rattle.field.proofs.Results.{ok_of}
 use Rattle.field.proofs.frame.fields_of.Goals as goal
 
 pub returns-in_err-text-clause-fields : goal.returns-in_err-text-clause-fields

@@ -1,7 +1,8 @@
-use Rattle.std.proofs.Common.{arith, sym, ◌∙◌, subst}
+use Rattle.std.proofs.Common.{◌≡◌, Some, subst, arith}
 use Rattle.field.specs.Parts.{Found}
-use Rattle.packet.proofs.Steps.{some_of}
 use Rattle.packet.proofs.readings.found_by.Goals as goal
 
 pub returns-clause-place : goal.returns-clause-place
-returns-clause-place c = λ packet h. subst (Found packet) (some_of _ _ _ c.in_ok-text.ensures.value) (c.value_in.ensures.place packet h)
+returns-clause-place c =
+    let e : c.value_in.result ≡ Some c.in_ok-text.text = grind arith in
+    λ packet within. subst (Found packet) e (c.value_in.ensures.place packet within)

@@ -1,27 +1,23 @@
-use Rattle.std.proofs.Common.{ap, ◌∙◌}
+use Rattle.std.proofs.Common.{refl}
 use Rattle.std.proofs.lemmas.Result.{MatchResult-weaker}
-use Rattle.field.specs.Fields.{first}
 use Rattle.field.specs.Parts.{fields_left}
-use Rattle.packet.proofs.Steps.{after_two, after_three, reading_from, on_ok}
+use Rattle.packet.proofs.Steps.{turn, reading_from, on_ok}
 use Rattle.packet.proofs.readings.ReadingGroupGroup.read.Goals as goal
 
-pub returns-clause-group : goal.returns-clause-group
-returns-clause-group c =
-    let f₀ = fields_left c.args.fields.now in
-    let a = c.next_field-code.ensures in
-    let b = c.next_field-word.ensures in
-    let d = c.next_field-text.ensures in
-    reading_from f₀ _ _ _ c.reading_by.ensures.group a.field (b.field ∙ ap first a.after) (d.field ∙ ap first (after_two f₀ _ _ _ a.after b.after d.after))
-
-pub returns-clause-after : goal.returns-clause-after
-returns-clause-after c =
-    on_ok c.reading_by.result (after_three (fields_left c.args.fields.now) _ _ _ c.next_field-code.ensures.after c.next_field-word.ensures.after c.next_field-text.ensures.after)
-
-pub returns-clause-place : goal.returns-clause-place
-returns-clause-place c =
-    MatchResult-weaker c.reading_by.result c.reading_by.ensures.place
-    (λ x h packet w. h packet (c.next_field-text.ensures.place packet (c.next_field-word.ensures.onward packet (c.next_field-code.ensures.onward packet w))))
-    (λ _ u. u)
-
-pub returns-clause-onward : goal.returns-clause-onward
-returns-clause-onward c = λ packet h. c.next_field-text.ensures.onward packet (c.next_field-word.ensures.onward packet (c.next_field-code.ensures.onward packet h))
+pub returns : goal.returns
+returns c =
+    let all = fields_left c.args.fields.now in
+    let v = c.next-code.ensures.steps in
+    let w = c.next-word.ensures.steps in
+    let t = c.next-text.ensures.steps in
+    let p = turn all 0 _ _ _ refl v in
+    let q = turn all 1 _ _ _ p.1 w in
+    let r = turn all 2 _ _ _ q.1 t in
+    let told = c.reading_by.ensures in
+    record {
+      group = reading_from all _ _ _ told.group p.0 q.0 r.0;
+      bound = told.bound;
+      after = on_ok c.reading_by.result r.1;
+      place = MatchResult-weaker c.reading_by.result told.place (λ x h packet within. h packet (t.1 packet (w.2 packet (v.2 packet within)))) (λ _ u. u);
+      onward = λ packet within. t.2 packet (w.2 packet (v.2 packet within));
+    }
