@@ -20,6 +20,10 @@ entry_of s = record { index = s.index; element = record { kind = s.kind; datum =
 abbrev pub element_of : Slot → Element
 element_of s = (entry_of s).element
 
+-- the index lies between the limits
+abbrev pub lies : ℕ → ℕ → Slot → Bool
+lies low high s = nat_le low s.index && nat_le s.index high
+
 abbrev pub lookup : List Entry → ℕ → Option Element
 lookup [] i = None
 lookup (e ∷ es) i = cond (i == e.index) (Some e.element) (lookup es i)

@@ -19,7 +19,7 @@ pub record First (low high : ℕ) (e : Entry) (es : List Entry) : Type 0 where
   pub most : e.index ≤ high
   pub rest : ascending (suc e.index) high es ≡ true
 
-first : (low high : ℕ) (e : Entry) (es : List Entry) → ascending low high (e ∷ es) ≡ true → First low high e es
+pub first : (low high : ℕ) (e : Entry) (es : List Entry) → ascending low high (e ∷ es) ≡ true → First low high e es
 first low high e es h =
     let p = and_parts (nat_le low e.index) _ h in
     let q = and_parts (nat_le e.index high) _ p.1 in
@@ -40,7 +40,7 @@ outside low high (e ∷ es) a i o =
     let f = first low high e es a in
     passed e es i (another low high e.index i f.least f.most o) ∙ outside (suc e.index) high es f.rest i (further low high e.index i f.least o)
 
-at_least : (low high : ℕ) (es : List Entry) → ascending low high es ≡ true → (k : ℕ) (d : Entry) → k < length es → low ≤ (slice_index_or es k d).index
+pub at_least : (low high : ℕ) (es : List Entry) → ascending low high es ≡ true → (k : ℕ) (d : Entry) → k < length es → low ≤ (slice_index_or es k d).index
 at_least low high [] a k d h = absurd (omega arith)
 at_least low high (e ∷ es) a zero d h = (first low high e es a).least
 at_least low high (e ∷ es) a (suc k) d h =

@@ -1,7 +1,7 @@
 //! Making a shelf.
 ghost use Rattle.std.specs.Prelude.{◌≡◌, map, if◌then◌else◌, Ok, Err};
 ghost use Rattle.store.specs.Makings.{making};
-ghost use Rattle.shelf.specs.Entries.{entry_of, ascending, counted, shelved, shelf_of};
+ghost use Rattle.shelf.specs.Entries.{entry_of, ascending, shelved, shelf_of};
 ghost use Rattle.shelf.specs.Shelves.{shelf};
 
 use crate::shelf::Shelf;
@@ -13,30 +13,15 @@ use store::rejected::Rejected;
 fn ascends(low: u16, high: u16, slots: &[Slot]) -> bool
     ensures { result ≡ ascending low high (map entry_of slots.now) }
 {
-    let mut least = low as u32;
-    let most = high as u32;
-    for slot in slots {
-        let index = slot.index as u32;
-        if index < least || index > most {
-            return false;
-        }
-        least = index + 1;
-    }
-    true
-}
-
-/// Whether there are 1 to 256.
-fn is_counted(slots: &[Slot]) -> bool
-    ensures { result ≡ counted (map entry_of slots.now) }
-{
-    1 <= slots.len() && slots.len() <= 256
+    slots.iter().all(|slot| slot.lies(low, high))
+        && slots.is_sorted_by(|slot, next| slot.index < next.index)
 }
 
 /// Whether a shelf can hold these.
 fn is_shelved(low: u16, high: u16, slots: &[Slot]) -> bool
     ensures { result ≡ shelved low high (map entry_of slots.now) }
 {
-    low <= high && is_counted(slots) && ascends(low, high, slots)
+    low <= high && (1..=256).contains(&slots.len()) && ascends(low, high, slots)
 }
 
 impl Shelf {
@@ -46,9 +31,10 @@ impl Shelf {
         ensures { making shelf result ≡ (if shelved low high (map entry_of slots.items) then Ok (shelf_of low high (map entry_of slots.items)) else Err (13, slots)) }
     {
         if !is_shelved(low, high, &slots) {
-            let given = slots;
-            let refusal = Refusal::Limit;
-            return Err(Rejected { refusal, given });
+            return Err(Rejected {
+                refusal: Refusal::Limit,
+                given: slots,
+            });
         }
         Ok(Shelf { low, high, slots })
     }

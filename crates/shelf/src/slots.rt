@@ -1,7 +1,7 @@
 //! Making a slot, and what it holds.
 ghost use Rattle.std.specs.Prelude.{◌≡◌};
 ghost use Rattle.value.specs.Meant.{kind_of, datum_of};
-ghost use Rattle.shelf.specs.Entries.{entry_of};
+ghost use Rattle.shelf.specs.Entries.{entry_of, lies};
 
 use crate::slot::Slot;
 use value::value::Value;
@@ -11,12 +11,21 @@ impl Slot {
     pub fn new(index: u16, value: Value, fixed: bool) -> Slot
         ensures { entry_of result ≡ record { index = index; element = record { kind = kind_of value; datum = datum_of value; fixed = fixed } } }
     {
+        // Kept first, since `kind` takes the value.
+        let kept = value;
         let kind = value.kind();
         Slot {
             index,
             kind,
-            value,
+            value: kept,
             fixed,
         }
+    }
+
+    /// Whether the index lies between the limits.
+    pub(crate) fn lies(&self, low: u16, high: u16) -> bool
+        ensures { result ≡ lies low high self.now }
+    {
+        (low..=high).contains(&self.index)
     }
 }

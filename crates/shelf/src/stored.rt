@@ -1,9 +1,9 @@
 //! The shelf as a store.
-ghost use Rattle.std.specs.Prelude.{◌≡◌, map, None, MatchOption};
+ghost use Rattle.std.specs.Prelude.{◌≡◌, None, MatchOption};
 ghost use Rattle.std.specs.Option.{option_map};
-ghost use Rattle.shelf.specs.Entries.{entry_of, element_of, lookup};
+ghost use Rattle.shelf.specs.Entries.{element_of, lookup};
 ghost use Rattle.shelf.specs.Places.{Place};
-ghost use Rattle.shelf.specs.Shelves.{shelf};
+ghost use Rattle.shelf.specs.Shelves.{entries, shelf};
 ghost use Rattle.shelf.specs.Rows.{row_sound};
 
 use crate::shelf::Shelf;
@@ -13,25 +13,22 @@ use protocol::kind::Kind;
 use store::store::Store;
 use value::value::Value;
 
-/// The place of the slot with this index, counted from 0.
-fn place(slots: &[Slot], index: u16) -> Option<usize>
-    ensures { MatchOption result (lookup (map entry_of slots.now) index ≡ None) (λ k. Place slots.now index k) }
-{
-    for (k, slot) in slots.iter().enumerate() {
-        if slot.index == index {
-            return Some(k);
-        }
+impl Shelf {
+    /// The place of the slot with this index, counted from 0.
+    fn place(&self, index: u16) -> Option<usize>
+        ensures { MatchOption result (lookup (entries self.now) index ≡ None) (λ k. Place self.now.slots.items index k) }
+    {
+        self.slots
+            .binary_search_by_key(&index, |slot| slot.index)
+            .ok()
     }
-    None
-}
 
-/// The slot with this index.
-fn slot_at(slots: &[Slot], index: u16) -> Option<Slot>
-    ensures { option_map element_of result ≡ lookup (map entry_of slots.now) index }
-{
-    match place(slots, index) {
-        Some(k) => Some(slots[k]),
-        None => None,
+    /// The slot with this index.
+    fn slot(&self, index: u16) -> Option<&Slot>
+        ensures { option_map (λ s. element_of s.now) result ≡ lookup (entries self.now) index }
+    {
+        let place = self.place(index)?;
+        Some(&self.slots[place])
     }
 }
 
@@ -45,34 +42,31 @@ impl Store for Shelf {
     }
 
     fn kind(&self, index: u16) -> Option<Kind> {
-        match slot_at(&self.slots, index) {
-            Some(slot) => Some(slot.kind),
-            None => None,
-        }
+        self.slot(index).map(|slot| slot.kind)
     }
 
     fn read(&self, index: u16) -> Result<Value, Code> {
         if !self.covers(index) {
             return Err(Code::OutsideLimits);
         }
-        match slot_at(&self.slots, index) {
-            Some(slot) => Ok(slot.value),
-            None => Err(Code::NotFound),
-        }
+        self.slot(index)
+            .map(|slot| slot.value)
+            .ok_or(Code::NotFound)
     }
 
     fn write(&mut self, index: u16, value: Value) -> Code {
         if !self.covers(index) {
             return Code::OutsideLimits;
         }
-        let Some(k) = place(&self.slots, index) else {
+        let Some(place) = self.place(index) else {
             return Code::NotFound;
         };
-        let held = self.slots[k];
-        if held.fixed || held.kind.number() != value.kind().number() {
+        let slot = Slot::new(index, value, false);
+        let held = &self.slots[place];
+        if held.fixed || held.kind != slot.kind {
             return Code::WrongType;
         }
-        self.slots[k] = Slot::new(index, value, false);
+        self.slots[place] = slot;
         Code::Done
     }
 }

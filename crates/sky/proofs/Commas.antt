@@ -1,38 +1,30 @@
--- The parts of a line.
-use Rattle.std.proofs.Common.{◌≡◌, ℕ, suc, ◌+◌, ◌-◌, ◌<◌, eqb, List, [], ◌∷◌, ◌++◌, length, get_or, take, drop, sym, refl, ap, ◌∙◌, arith}
-use Rattle.std.proofs.lemmas.List.{at_drop_more, take-append-drop, get_or-take, length-take-le, take_rest}
-use Rattle.std.proofs.lemmas.Bool.{ne_eqb, cond_both}
-use Rattle.sky.specs.Rows.{parts, onto}
+-- The parts of a line, one call of `next` at a time.
+use Rattle.std.proofs.Common.{◌≡◌, ℕ, Bool, false, List, [], ◌∷◌, length, Some, None, Bor, eqb, ◌≢◌, sym, refl, arith}
+use denote.Param.Members.{Mut}
+use Rattle.std.specs.Fn.{CalledAt}
+use Rattle.std.specs.Slice.Iter.{split_steps, split_rest, split_done, split_callee}
+use Rattle.std.specs.declared.slice.Split.{Split}
+use Rattle.std.proofs.lemmas.Iterator.{YieldsList}
+use Rattle.std.proofs.lemmas.Iterator.Consumers.{YieldsList-end, YieldsList-turn}
+use Rattle.std.proofs.lemmas.Iterator.Splits.{YieldsList-from_slice_split}
+use Rattle.sky.specs.Rows.{parts}
 
--- no comma among the first n bytes
-abbrev pub Clear : ℕ → List ℕ → Type 0
-Clear n bs = (k : ℕ) → k < n → get_or bs k 0 ≡ 44 → ⊥
+module _ {F : Type 0} (g : Mut F (Bor ℕ × Unit {0}) Bool) (f : F) (s : Split ℕ F) (line : List ℕ) where
+  road : split_rest s ≡ line → split_done s ≡ false → split_callee s ≡ f → ((x : ℕ) (b : Bool) (q : F) → CalledAt g f x b q → (q ≡ f) × (b ≡ eqb x 44)) → YieldsList (split_steps g) (λ x. x.now) s (parts line)
+  road rest done closure tests = YieldsList-from_slice_split {s = s} g (λ b. eqb b 44) line rest done closure tests
 
-pub parts_last : (bs : List ℕ) → Clear (length bs) bs → parts bs ≡ bs ∷ []
-parts_last [] h = refl
-parts_last (b ∷ bs) h = rw (ne_eqb b 44 (h 0 (omega arith)), parts_last bs (λ k l. h (suc k) (omega arith)))
+  pub one_part : (t u : Split ℕ F) (a : Bor (List ℕ)) → split_rest s ≡ line → split_done s ≡ false → split_callee s ≡ f → split_steps g s (Some a) t → split_steps g t None u → ((x : ℕ) (b : Bool) (q : F) → CalledAt g f x b q → (q ≡ f) × (b ≡ eqb x 44)) → length (parts line) ≢ 3
+  one_part t u a rest done closure k z tests three =
+      let end = YieldsList-end (road rest done closure tests) (a ∷ []) t (t, k, refl) None u refl z in omega (arith, end.1)
 
-pub parts_more : (xs ys : List ℕ) → Clear (length xs) xs → parts (xs ++ 44 ∷ ys) ≡ xs ∷ parts ys
-parts_more [] ys h = refl
-parts_more (x ∷ xs) ys h = rw (ne_eqb x 44 (h 0 (omega arith)), parts_more xs ys (λ k l. h (suc k) (omega arith)))
+  pub two_parts : (t u v : Split ℕ F) (a b : Bor (List ℕ)) → split_rest s ≡ line → split_done s ≡ false → split_callee s ≡ f → split_steps g s (Some a) t → split_steps g t (Some b) u → split_steps g u None v → ((x : ℕ) (b : Bool) (q : F) → CalledAt g f x b q → (q ≡ f) × (b ≡ eqb x 44)) → length (parts line) ≢ 3
+  two_parts t u v a b rest done closure k l z tests three =
+      let end = YieldsList-end (road rest done closure tests) (a ∷ b ∷ []) u (t, k, (u, l, refl)) None v refl z in omega (arith, end.1)
 
--- a comma at the place i, and none before it
-pub parts_at : (bs : List ℕ) (i : ℕ) → i < length bs → Clear i bs → get_or bs i 0 ≡ 44 → parts bs ≡ take i bs ∷ parts (drop (i + 1) bs)
-parts_at bs i h clear comma =
-    let n : length (take i bs) ≡ i = length-take-le i bs (omega arith) in
-    let free : Clear (length (take i bs)) (take i bs) = λ k l e. clear k (omega arith) (sym (get_or-take i bs k 0 (omega arith)) ∙ e) in
-    ap parts (sym (take-append-drop i bs) ∙ at_drop_more (λ ys. take i bs ++ ys) bs i 0 h ∙ ap (λ b. take i bs ++ (b ∷ drop (i + 1) bs)) comma) ∙ parts_more (take i bs) (drop (i + 1) bs) free
+  pub more_parts : (t u v w : Split ℕ F) (a b c d : Bor (List ℕ)) → split_rest s ≡ line → split_done s ≡ false → split_callee s ≡ f → split_steps g s (Some a) t → split_steps g t (Some b) u → split_steps g u (Some c) v → split_steps g v (Some d) w → ((x : ℕ) (b : Bool) (q : F) → CalledAt g f x b q → (q ≡ f) × (b ≡ eqb x 44)) → length (parts line) ≢ 3
+  more_parts t u v w a b c d rest done closure k l m n tests three =
+      let turn = YieldsList-turn (road rest done closure tests) (a ∷ b ∷ c ∷ []) v (t, k, (u, l, (v, m, refl))) (Some d) w d refl n in omega (arith, turn.0)
 
--- the same of the two slices, as the checker reads them
-pub parts_cut : (bs : List ℕ) (i : ℕ) → i < length bs → Clear i bs → get_or bs i 0 ≡ 44 → parts bs ≡ take (i - 0) bs ∷ parts (take (length bs - (i + 1)) (drop (i + 1) bs))
-parts_cut bs i h clear comma =
-    let e : i - 0 ≡ i = omega arith in
-    rw (e, take_rest bs (i + 1)) (parts_at bs i h clear comma)
-
-pub parts_some : (bs : List ℕ) → 0 < length (parts bs)
-parts_some [] = omega arith
-parts_some (b ∷ bs) = cond_both (eqb b 44) _ _ (λ ps. 0 < length ps) (λ _. omega arith) (λ _. onto_some b (parts bs))
-  where
-    onto_some : (b : ℕ) (ps : List (List ℕ)) → 0 < length (onto b ps)
-    onto_some b [] = omega arith
-    onto_some b (p ∷ ps) = omega arith
+  pub three_parts : (t u v w : Split ℕ F) (a b c : Bor (List ℕ)) → split_rest s ≡ line → split_done s ≡ false → split_callee s ≡ f → split_steps g s (Some a) t → split_steps g t (Some b) u → split_steps g u (Some c) v → split_steps g v None w → ((x : ℕ) (b : Bool) (q : F) → CalledAt g f x b q → (q ≡ f) × (b ≡ eqb x 44)) → parts line ≡ a.now ∷ b.now ∷ c.now ∷ []
+  three_parts t u v w a b c rest done closure k l m z tests =
+      let end = YieldsList-end (road rest done closure tests) (a ∷ b ∷ c ∷ []) v (t, k, (u, l, (v, m, refl))) None w refl z in sym end.0

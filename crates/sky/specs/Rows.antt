@@ -2,6 +2,7 @@
 --     parts line      what stands between the commas
 --     row_of line     the row that a line writes, or the first fault
 use Rattle.std.specs.Prelude.{ℕ, Bool, cond, List, [], ◌∷◌, ℤ, Some, None, Ok, Err, Option, Result, ◌==◌}
+use Rattle.std.specs.List.{slice_split}
 use Rattle.protocol.specs.Texts.{text_of}
 use Rattle.protocol.specs.declared.kind.Kind.TheVariants as K
 use Rattle.value.specs.Values.{Datum, truth, whole, real, words, value_read}
@@ -9,15 +10,9 @@ use Rattle.sky.specs.Stars.{Row, ascends, declines}
 use Rattle.sky.specs.declared.fault.RowFault.{RowFault}
 use Rattle.sky.specs.declared.fault.RowFault.TheVariants.{Fields, Name, Ascension, Declination}
 
--- the byte b in front of the first part
-abbrev pub onto : ℕ → List (List ℕ) → List (List ℕ)
-onto b [] = (b ∷ []) ∷ []
-onto b (p ∷ ps) = (b ∷ p) ∷ ps
-
 -- what stands between the commas of a line
 abbrev pub parts : List ℕ → List (List ℕ)
-parts [] = [] ∷ []
-parts (b ∷ bs) = cond (b == 44) ([] ∷ parts bs) (onto b (parts bs))
+parts line = slice_split (λ b. b == 44) line
 
 -- the number, where it passes a test
 abbrev pub passing : (ℤ → Bool) → Option ℤ → Option ℤ

@@ -31,13 +31,17 @@ row s = record { name = star_name s; ascension = star_ascension s; declination =
 abbrev pub made_row : Result Star RowFault → Result Row RowFault
 made_row r = result_map_both row (λ fault. fault) r
 
+-- at least the first, and at most the second
+abbrev pub between : ℤ → ℤ → ℤ → Bool
+between low high z = int_le low z && int_le z high
+
 -- from 0 to one short of 360 degrees
 abbrev pub ascends : ℤ → Bool
-ascends a = int_le (pos 0) a && int_le a (pos 1295999999)
+ascends a = between (pos 0) (pos 1295999999) a
 
 -- from -90 to 90 degrees
 abbrev pub declines : ℤ → Bool
-declines d = int_le (negsuc 323999999) d && int_le d (pos 324000000)
+declines d = between (negsuc 323999999) (pos 324000000) d
 
 -- the star of a name and two angles, or the first angle out of its range
 abbrev pub star_of : List ℕ → ℤ → ℤ → Result Row RowFault

@@ -3,12 +3,11 @@ ghost use Rattle.std.specs.Prelude.{◌≡◌, ◌/◌, pos, Some, int_lt, unsig
 ghost use Rattle.sky.specs.Stars.{star_declination};
 ghost use Rattle.sky.specs.Coordinates.{arc_of, Arc, degrees_text};
 
-use crate::digits::Two;
 use crate::star::Star;
 use std::fmt;
 
 /// A declination: a sign, and its size in degrees, minutes and seconds of arc.
-#[derive(Clone, Copy)]
+#[derive(Clone, Copy, Debug, PartialEq, Eq)]
 pub struct Degrees {
     pub negative: bool,
     pub degrees: u8,
@@ -41,12 +40,19 @@ impl Star {
 impl fmt::Display for Degrees {
     ghost output = { λ a. Some (degrees_text a) };
 
+    #[tactic(auto, using(crate::proofs::Padding::two_padded))]
     fn fmt<W: fmt::Write>(&self, f: &mut fmt::Formatter<W>) -> fmt::Result {
         let sign = if self.negative { "-" } else { "+" };
-        let degrees = Two(self.degrees);
-        let minutes = Two(self.minutes);
-        let seconds = Two(self.seconds);
-        let hundredths = Two(self.hundredths);
-        write!(f, "{sign}{degrees}°{minutes}'{seconds}.{hundredths}\"")
+        let Degrees {
+            degrees,
+            minutes,
+            seconds,
+            hundredths,
+            ..
+        } = *self;
+        write!(
+            f,
+            "{sign}{degrees:02}°{minutes:02}'{seconds:02}.{hundredths:02}\""
+        )
     }
 }

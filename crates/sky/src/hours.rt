@@ -3,12 +3,11 @@ ghost use Rattle.std.specs.Prelude.{◌≡◌, ◌/◌, Some, unsigned_abs};
 ghost use Rattle.sky.specs.Stars.{star_ascension};
 ghost use Rattle.sky.specs.Coordinates.{time_of, Clock, hours_text};
 
-use crate::digits::{Three, Two};
 use crate::star::Star;
 use std::fmt;
 
 /// A right ascension as a time: 24 hours are the full circle, so one second of time is 15 arcseconds.
-#[derive(Clone, Copy)]
+#[derive(Clone, Copy, Debug, PartialEq, Eq)]
 pub struct Hours {
     pub hours: u8,
     pub minutes: u8,
@@ -38,11 +37,14 @@ impl Star {
 impl fmt::Display for Hours {
     ghost output = { λ t. Some (hours_text t) };
 
+    #[tactic(auto, using(crate::proofs::Padding::two_padded, crate::proofs::Padding::three_padded))]
     fn fmt<W: fmt::Write>(&self, f: &mut fmt::Formatter<W>) -> fmt::Result {
-        let hours = Two(self.hours);
-        let minutes = Two(self.minutes);
-        let seconds = Two(self.seconds);
-        let millis = Three(self.millis);
-        write!(f, "{hours}h{minutes}m{seconds}.{millis}s")
+        let Hours {
+            hours,
+            minutes,
+            seconds,
+            millis,
+        } = *self;
+        write!(f, "{hours:02}h{minutes:02}m{seconds:02}.{millis:03}s")
     }
 }

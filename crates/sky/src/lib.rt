@@ -3,7 +3,6 @@
 #![tactic(auto)]
 
 pub mod degrees;
-mod digits;
 pub mod fault;
 pub mod hours;
 pub mod making;

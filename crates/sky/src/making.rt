@@ -1,24 +1,38 @@
 //! Making a star, and what it holds.
 ghost use Rattle.std.specs.Prelude.{◌≡◌};
 ghost use Rattle.protocol.specs.Held.{text_bytes};
-ghost use Rattle.sky.specs.Stars.{star_name, star_ascension, star_declination, made_row, ascends, declines, star_of};
+ghost use Rattle.sky.specs.Stars.{star_name, star_ascension, star_declination, made_row, between, star_of};
 
 use crate::fault::RowFault;
 use crate::star::Star;
 use protocol::text::Text;
 
-/// Whether a number is a right ascension.
-pub(crate) fn is_ascension(number: i32) -> bool
-    ensures { result ≡ ascends number }
-{
-    0 <= number && number <= 1_295_999_999
+/// The angles from one end to the other, in milliarcseconds.
+#[derive(Clone, Copy)]
+pub(crate) struct Angles {
+    low: i32,
+    high: i32,
 }
 
-/// Whether a number is a declination.
-pub(crate) fn is_declination(number: i32) -> bool
-    ensures { result ≡ declines number }
-{
-    -324_000_000 <= number && number <= 324_000_000
+/// The right ascensions: from 0 to one short of the full circle.
+pub(crate) const ASCENSIONS: Angles = Angles {
+    low: 0,
+    high: 1_295_999_999,
+};
+
+/// The declinations: from the south pole to the north pole.
+pub(crate) const DECLINATIONS: Angles = Angles {
+    low: -324_000_000,
+    high: 324_000_000,
+};
+
+impl Angles {
+    /// Whether a number is one of them.
+    pub(crate) fn contain(self, number: i32) -> bool
+        ensures { result ≡ between self.low self.high number }
+    {
+        (self.low..=self.high).contains(&number)
+    }
 }
 
 impl Star {
@@ -26,10 +40,10 @@ impl Star {
     pub fn new(name: Text, ascension: i32, declination: i32) -> Result<Star, RowFault>
         ensures { made_row result ≡ star_of (text_bytes name) ascension declination }
     {
-        if !is_ascension(ascension) {
+        if !ASCENSIONS.contain(ascension) {
             return Err(RowFault::Ascension);
         }
-        if !is_declination(declination) {
+        if !DECLINATIONS.contain(declination) {
             return Err(RowFault::Declination);
         }
         Ok(Star {

@@ -1,40 +1,30 @@
 //! Reading a row of the catalogue.
 ghost use Rattle.std.specs.Prelude.{◌≡◌, true, [], ◌∷◌, length, IfSome, MatchOption, ◌≢◌};
-ghost use Rattle.sky.specs.Stars.{made_row, ascends, declines};
+ghost use Rattle.sky.specs.Stars.{made_row, between};
 ghost use Rattle.sky.specs.Rows.{parts, angle_of, read_parts, row_of};
 ghost use Rattle.protocol.specs.declared.kind.Kind.TheVariants as K;
 ghost use Rattle.value.specs.Values.{value_read};
 ghost use Rattle.sky.specs.Rows.{number};
 
 use crate::fault::RowFault;
-use crate::making::{is_ascension, is_declination};
+use crate::making::{ASCENSIONS, Angles, DECLINATIONS};
 use crate::star::Star;
 use protocol::kind::Kind;
 use protocol::text::Text;
 use value::read::read_value;
 use value::value::Value;
 
-/// What stands before and behind the first comma.
-fn cut(text: &[u8]) -> Option<(&[u8], &[u8])>
-    ensures { MatchOption result (parts text.now ≡ text.now ∷ []) (λ p. parts text.now ≡ p.0.now ∷ parts p.1.now) }
-{
-    for (i, b) in text.iter().enumerate() {
-        if *b == b',' {
-            return Some((&text[0..i], &text[i + 1..]));
-        }
-    }
-    None
-}
-
 /// The three parts of a row, if it has just three.
 fn three_parts(line: &[u8]) -> Option<(&[u8], &[u8], &[u8])>
     ensures { MatchOption result (length (parts line.now) ≢ 3) (λ p. parts line.now ≡ p.0.now ∷ p.1.now ∷ p.2.now ∷ []) }
 {
-    let (name, rest) = cut(line)?;
-    let (ascension, declination) = cut(rest)?;
-    match cut(declination) {
-        Some(_) => None,
+    let mut parts = line.split(|byte| *byte == b',');
+    let name = parts.next()?;
+    let ascension = parts.next()?;
+    let declination = parts.next()?;
+    match parts.next() {
         None => Some((name, ascension, declination)),
+        Some(_) => None,
     }
 }
 
@@ -48,45 +38,21 @@ fn read_number(part: &[u8]) -> Option<i32>
     }
 }
 
-/// The right ascension that a part of a row writes.
-fn read_ascension(part: &[u8]) -> Option<i32>
-    ensures value { result ≡ angle_of ascends part.now }
-    ensures within { IfSome result (λ n. ascends n ≡ true) }
+/// The angle that a part of a row writes, if it is one of these.
+fn read_angle(part: &[u8], angles: Angles) -> Option<i32>
+    ensures value { result ≡ angle_of (between angles.low angles.high) part.now }
+    ensures within { IfSome result (λ n. between angles.low angles.high n ≡ true) }
 {
-    let number = read_number(part)?;
-    if is_ascension(number) {
-        Some(number)
-    } else {
-        None
-    }
-}
-
-/// The declination that a part of a row writes.
-fn read_declination(part: &[u8]) -> Option<i32>
-    ensures value { result ≡ angle_of declines part.now }
-    ensures within { IfSome result (λ n. declines n ≡ true) }
-{
-    let number = read_number(part)?;
-    if is_declination(number) {
-        Some(number)
-    } else {
-        None
-    }
+    read_number(part).filter(|number| angles.contain(*number))
 }
 
 /// The star with a name and two angles as they are written, or the first that is none.
 fn read_star(name: &[u8], ascension: &[u8], declination: &[u8]) -> Result<Star, RowFault>
     ensures { made_row result ≡ read_parts name.now ascension.now declination.now }
 {
-    let Some(name) = Text::new(name) else {
-        return Err(RowFault::Name);
-    };
-    let Some(ascension) = read_ascension(ascension) else {
-        return Err(RowFault::Ascension);
-    };
-    let Some(declination) = read_declination(declination) else {
-        return Err(RowFault::Declination);
-    };
+    let name = Text::new(name).ok_or(RowFault::Name)?;
+    let ascension = read_angle(ascension, ASCENSIONS).ok_or(RowFault::Ascension)?;
+    let declination = read_angle(declination, DECLINATIONS).ok_or(RowFault::Declination)?;
     Star::new(name, ascension, declination)
 }
 
@@ -94,8 +60,6 @@ fn read_star(name: &[u8], ascension: &[u8], declination: &[u8]) -> Result<Star, 
 pub fn read_row(line: &[u8]) -> Result<Star, RowFault>
     ensures { made_row result ≡ row_of line.now }
 {
-    match three_parts(line) {
-        Some((name, ascension, declination)) => read_star(name, ascension, declination),
-        None => Err(RowFault::Fields),
-    }
+    let (name, ascension, declination) = three_parts(line).ok_or(RowFault::Fields)?;
+    read_star(name, ascension, declination)
 }

@@ -10,23 +10,17 @@ use protocol::refusal::Refusal;
 use sky::star::Star;
 use store::rejected::Rejected;
 
-/// Whether there are 1 to 20,000.
-fn is_counted(count: usize) -> bool
-    ensures { result ≡ counted count }
-{
-    1 <= count && count <= 20_000
-}
-
 impl StarRows {
     /// The star rows of these stars, in this order. Unless there are 1 to 20,000 of them they come back.
     pub fn new(stars: Vec<Star>) -> Result<StarRows, Rejected<Vec<Star>>>
         ensures made { making star_rows result ≡ (if counted (vec_len stars) then Ok (stars_of (map row stars.items)) else Err (13, stars)) }
         ensures placed { IfOk result (λ s. Placed (map row stars.items) (star_rows s)) }
     {
-        if !is_counted(stars.len()) {
-            let given = stars;
-            let refusal = Refusal::Limit;
-            return Err(Rejected { refusal, given });
+        if !(1..=20_000).contains(&stars.len()) {
+            return Err(Rejected {
+                refusal: Refusal::Limit,
+                given: stars,
+            });
         }
         Ok(StarRows { stars })
     }

@@ -1,8 +1,7 @@
 //! The star rows as a store. An element is found by arithmetic: index 100 + 3 × k + p is part p of row k.
-ghost use Rattle.std.specs.Prelude.{◌≡◌, ◌-◌, ◌/◌, ◌%◌, ◌<◌, ◌≤◌, true};
-ghost use Rattle.sky.specs.Stars.{row};
-ghost use Rattle.store.specs.Contents.{typed, inside};
-ghost use Rattle.stars.specs.Parts.{part_of};
+ghost use Rattle.std.specs.Prelude.{◌≡◌, is_some};
+ghost use Rattle.std.specs.Option.{option_map};
+ghost use Rattle.store.specs.Contents.{typed, fixed, inside};
 ghost use Rattle.stars.specs.Rows.{star_rows};
 ghost use Rattle.std.proofs.Common.{arith};
 ghost use Rattle.stars.specs.Soundness.{stars_sound};
@@ -10,21 +9,28 @@ ghost use Rattle.stars.specs.Soundness.{stars_sound};
 use crate::rows::StarRows;
 use protocol::code::Code;
 use protocol::kind::Kind;
-use sky::star::Star;
 use store::store::Store;
 use value::value::Value;
 
 /// The index of the first star's name.
 const FIRST: u16 = 100;
 
-/// A part of a row: 0 is the name, 1 the right ascension, and 2 the declination.
-fn part(star: &Star, number: usize) -> Value
-    ensures { typed result ≡ part_of (row star.now) number }
-{
-    match number {
-        0 => Value::St(star.name()),
-        1 => Value::In(star.ascension()),
-        _ => Value::In(star.declination()),
+impl StarRows {
+    /// The value of the element at the index, if there is one.
+    fn element(&self, index: u16) -> Option<Value>
+        ensures value { option_map (λ v. fixed (typed v)) result ≡ (star_rows self.now).element index }
+        ensures there { is_some result ≡ inside (star_rows self.now) index }
+    {
+        if !self.covers(index) {
+            return None;
+        }
+        let place = usize::from(index - FIRST);
+        let star = &self.stars[place / 3];
+        match place % 3 {
+            0 => Some(Value::St(star.name())),
+            1 => Some(Value::In(star.ascension())),
+            _ => Some(Value::In(star.declination())),
+        }
     }
 }
 
@@ -39,29 +45,16 @@ impl Store for StarRows {
     }
 
     fn kind(&self, index: u16) -> Option<Kind> {
-        if !self.covers(index) {
-            return None;
-        }
-        if (index - FIRST) % 3 == 0 {
-            Some(Kind::St)
-        } else {
-            Some(Kind::In)
-        }
+        self.element(index).map(|value| value.kind())
     }
 
     fn read(&self, index: u16) -> Result<Value, Code> {
-        if !self.covers(index) {
-            return Err(Code::OutsideLimits);
-        }
-        let place = (index - FIRST) as usize;
-        Ok(part(&self.stars[place / 3], place % 3))
+        self.element(index).ok_or(Code::OutsideLimits)
     }
 
     fn write(&mut self, index: u16, _value: Value) -> Code {
-        if self.covers(index) {
-            Code::WrongType
-        } else {
-            Code::OutsideLimits
-        }
+        // Each element is fixed.
+        self.element(index)
+            .map_or(Code::OutsideLimits, |_| Code::WrongType)
     }
 }

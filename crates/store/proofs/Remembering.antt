@@ -1,16 +1,17 @@
 -- A list of calls, one more at a time, and the law of stores over it.
-use Rattle.std.proofs.Common.{◌≡◌, ℕ, zero, suc, ◌+◌, ◌<◌, ◌≤◌, true, List, [], ◌∷◌, ◌++◌, map, length, get_or, take, drop, sym, refl, ap, ◌∙◌, ap₂, subst₂, append_assoc, append-nil, arith}
+use Rattle.std.proofs.Common.{◌≡◌, ℕ, zero, suc, ◌+◌, ◌<◌, ◌≤◌, true, List, [], ◌∷◌, ◌++◌, map, length, get_or, take, drop, Option, Result, sym, refl, ap, ◌∙◌, ap₂, subst₂, append_assoc, append-nil, arith}
 use Rattle.std.proofs.lemmas.List.{map_push, at_drop_more, at_drop_all}
 use Rattle.store.specs.Contents.{Contents, Reading, typed, found, inside}
 use Rattle.store.specs.Runs.{answered, answer_of, after_step, answers_of, after_of, left_by, latest, Remembers}
-use Rattle.store.specs.declared.step.Answer.{Answer}
+use Rattle.protocol.specs.declared.code.Code.{Code}
+use Rattle.value.specs.declared.value.Value.{Value}
 use Rattle.store.specs.declared.step.Step.{Step}
 use Rattle.store.specs.declared.step.Step.TheVariants as S
 use Rattle.store.specs.Writings.{read_inside}
 use Rattle.store.proofs.Wrote.{write_low, write_high, write_leaves}
 
 -- x is what stands at k
-pub answers_more : (m n : Contents) (rs qs : List Answer) (xs : List Step) (k : ℕ) (x : Step) (r : Answer) → k < length xs → x ≡ get_or xs k x → answered r ≡ answer_of m x → n ≡ after_step m x → qs ≡ rs ++ r ∷ [] → map answered qs ++ answers_of n (drop (k + 1) xs) ≡ map answered rs ++ answers_of m (drop k xs)
+pub answers_more : (m n : Contents) (rs qs : List (Result (Option Value) Code)) (xs : List Step) (k : ℕ) (x : Step) (r : Result (Option Value) Code) → k < length xs → x ≡ get_or xs k x → answered r ≡ answer_of m x → n ≡ after_step m x → qs ≡ rs ++ r ∷ [] → map answered qs ++ answers_of n (drop (k + 1) xs) ≡ map answered rs ++ answers_of m (drop k xs)
 answers_more m n rs qs xs k x r h is a b e =
     ap (λ q. q ++ answers_of n (drop (k + 1) xs)) (ap (map answered) e ∙ map_push answered rs r)
     ∙ append_assoc (map answered rs) (answered r ∷ []) (answers_of n (drop (k + 1) xs))

@@ -3,18 +3,19 @@
 --     after_of c ss           what the store means afterwards
 --     latest o i ss rs        what stands at i by the answers alone, where o stood first
 --     Remembers c ss rs after the law of stores over a list of calls
-use Rattle.std.specs.Prelude.{◌≡◌, ℕ, ◌<◌, true, cond, ◌&&◌, List, [], ◌∷◌, length, take, Some, Option, ◌==◌, slice_index_or}
+use Rattle.std.specs.Prelude.{◌≡◌, ℕ, ◌<◌, true, cond, ◌&&◌, List, [], ◌∷◌, length, take, Some, None, Ok, Err, Option, Result, ◌==◌, slice_index_or}
 use Rattle.protocol.specs.Words.{code_number}
+use Rattle.protocol.specs.declared.code.Code.{Code}
+use Rattle.value.specs.declared.value.Value.{Value}
 use Rattle.store.specs.Contents.{Contents, Element, Reading, typed, free, refused, found, inside, read_of, write_of}
-use Rattle.store.specs.declared.step.Answer.{Answer}
-use Rattle.store.specs.declared.step.Answer.TheVariants as A
 use Rattle.store.specs.declared.step.Step.{Step}
 use Rattle.store.specs.declared.step.Step.TheVariants as S
 
--- what a call was answered: a code, and the value that a read found
-abbrev pub answered : Answer → Reading
-answered (A.Found v) = record { code = 0; value = Some (typed v) }
-answered (A.Gave c) = refused (code_number c)
+-- what a call was answered: a code, and the value that a read found; a write that was done has the code 0 alone
+abbrev pub answered : Result (Option Value) Code → Reading
+answered (Ok (Some v)) = record { code = 0; value = Some (typed v) }
+answered (Ok None) = refused 0
+answered (Err c) = refused (code_number c)
 
 -- the answer to one call
 abbrev pub answer_of : Contents → Step → Reading

@@ -1,6 +1,8 @@
 //! The house record.
 ghost use Rattle.std.specs.Prelude.{◌≡◌};
 ghost use Rattle.protocol.specs.Held.{text_bytes};
+ghost use Rattle.std.specs.Option.{option_map};
+ghost use Rattle.store.specs.Contents.{typed, fixed};
 ghost use Rattle.store.specs.House.{house_of, house};
 ghost use Rattle.store.specs.Houses.{house_sound};
 
@@ -25,6 +27,18 @@ impl HouseRecord {
     {
         HouseRecord { serial, identifier }
     }
+
+    /// The value of the element at the index, if there is one.
+    fn element(&self, index: u16) -> Option<Value>
+        ensures { option_map (λ v. fixed (typed v)) result ≡ (house self.now).element index }
+    {
+        match index {
+            0 | 3 => Some(Value::By(0)),
+            1 => Some(Value::St(self.serial)),
+            2 => Some(Value::St(self.identifier)),
+            _ => None,
+        }
+    }
 }
 
 impl Store for HouseRecord {
@@ -37,28 +51,18 @@ impl Store for HouseRecord {
     }
 
     fn kind(&self, index: u16) -> Option<Kind> {
-        match index {
-            0 | 3 => Some(Kind::By),
-            1 | 2 => Some(Kind::St),
-            _ => None,
-        }
+        self.element(index).map(Value::kind)
     }
 
     fn read(&self, index: u16) -> Result<Value, Code> {
-        match index {
-            0 | 3 => Ok(Value::By(0)),
-            1 => Ok(Value::St(self.serial)),
-            2 => Ok(Value::St(self.identifier)),
-            4..=99 => Err(Code::NotFound),
-            _ => Err(Code::OutsideLimits),
+        if !self.covers(index) {
+            return Err(Code::OutsideLimits);
         }
+        self.element(index).ok_or(Code::NotFound)
     }
 
     fn write(&mut self, index: u16, _value: Value) -> Code {
-        match index {
-            0..=3 => Code::WrongType,
-            4..=99 => Code::NotFound,
-            _ => Code::OutsideLimits,
-        }
+        // Whatever can be read is fixed.
+        self.read(index).err().unwrap_or(Code::WrongType)
     }
 }

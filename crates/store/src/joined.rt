@@ -30,9 +30,10 @@ impl<L: Store, U: Store> Joined<L, U> {
         if high < low {
             Ok(Joined { lower, upper })
         } else {
-            let given = (lower, upper);
-            let refusal = Refusal::Limit;
-            Err(Rejected { refusal, given })
+            Err(Rejected {
+                refusal: Refusal::Limit,
+                given: (lower, upper),
+            })
         }
     }
 }

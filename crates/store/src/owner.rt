@@ -13,13 +13,7 @@ use value::read::read_value;
 fn no_value<S: Store>(store: &S, index: u16) -> Code
     ensures { code_number result ≡ (if inside (S.meaning store.now) index then mismatched (kind_at (S.meaning store.now) index) else 3) }
 {
-    if !store.covers(index) {
-        return Code::OutsideLimits;
-    }
-    match store.kind(index) {
-        Some(_) => Code::WrongType,
-        None => Code::NotFound,
-    }
+    store.read(index).err().unwrap_or(Code::WrongType)
 }
 
 /// The owner's write: a text as a value of the type named. Outside the limits and nothing there come first; then the

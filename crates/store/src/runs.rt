@@ -4,6 +4,7 @@ ghost use Rattle.store.specs.Runs.{answered, answer_of, after_step, answers_of, 
 
 use crate::step::{Answer, Step};
 use crate::store::Store;
+use protocol::code::Code;
 use std::alloc::{AllocError, Global};
 
 /// Makes one call on a store.
@@ -12,11 +13,11 @@ pub fn perform<S: Store>(store: &mut S, step: Step) -> Answer
     ensures after { S.meaning store.new ≡ after_step (S.meaning store.old) step }
 {
     match step {
-        Step::Read(index) => match store.read(index) {
-            Ok(value) => Answer::Found(value),
-            Err(code) => Answer::Gave(code),
+        Step::Read(index) => store.read(index).map(Some),
+        Step::Write(index, value) => match store.write(index, value) {
+            Code::Done => Ok(None),
+            code => Err(code),
         },
-        Step::Write(index, value) => Answer::Gave(store.write(index, value)),
     }
 }
 

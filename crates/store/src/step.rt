@@ -9,11 +9,6 @@ pub enum Step {
     Write(u16, Value),
 }
 
-/// What a store answers to a call.
-#[derive(Clone, Copy)]
-pub enum Answer {
-    /// A read found this value.
-    Found(Value),
-    /// The code of a write, or of a read that found nothing.
-    Gave(Code),
-}
+/// What a store answers to a call: the value that a read found, or no value to a write that was done, or else the code
+/// that says why not.
+pub type Answer = Result<Option<Value>, Code>;

@@ -14,6 +14,7 @@ pub trait Store {
     ghost meaning: { Self → Contents };
 
     /// The limits, lowest and highest index, which never change.
+    // Two numbers and no range: a contract says what each is, and a range would say besides how far it was gone through.
     fn limits(&self) -> (u16, u16)
         ensures low { result.0 ≡ (meaning self.now).low }
         ensures high { result.1 ≡ (meaning self.now).high };
@@ -28,6 +29,7 @@ pub trait Store {
 
     /// Writes a value: outside the limits, nothing there, another type or a fixed element, or done. Unless it is done
     /// nothing changes.
+    // The answer is a code and no Result, as the answer to a packet carries the code of each write, that of done too.
     fn write(&mut self, index: u16, value: Value) -> Code
         ensures code { code_number result ≡ (write_of (meaning self.old) index (typed value)).code }
         ensures after { meaning self.new ≡ (write_of (meaning self.old) index (typed value)).after };
@@ -37,7 +39,7 @@ pub trait Store {
         ensures { result ≡ inside (meaning self.now) index }
     {
         let (low, high) = self.limits();
-        low <= index && index <= high
+        (low..=high).contains(&index)
     }
 
     /// The lowest limit is not above the highest, no element lies outside them, and each element's value is of its type.

@@ -1,15 +1,18 @@
-use Rattle.std.proofs.Common.{sym, ◌∙◌}
-use Rattle.shelf.proofs.Searches.{ascends_more, ascends_not, ascends_all}
+use Rattle.std.proofs.Common.{◌≡◌, true, false, ◌∙◌, rules, tests}
+use Rattle.std.proofs.lemmas.Iterator.{YieldsList-from_slice, cases_from_all}
+use Rattle.std.proofs.lemmas.List.Sorted.{answers_always}
+use Rattle.shelf.specs.Entries.{lies}
+use Rattle.shelf.proofs.Searches.{rises, ascends_as, ascends_not}
 use Rattle.shelf.proofs.making.ascends.Goals as goal
 
-pub returns-then-index-least : goal.returns-then-index-least
-returns-then-index-least c =
-    sym (ascends_not c.loop-slot.least c.args.high c.args.slots.now c.loop-slot.slot-index c.slot-item.result c.loop-slot-test.true c.slot-item.is c.then-index-least.either) ∙ c.loop-slot.invariant
+pub returns-then-all : goal.returns-then-all
+returns-then-all c =
+    let sorted = c.is_sorted_by.ensures.cases rises (answers_always _ _ _ (λ f a r g called. search rules)) in
+    ascends_as c.args.low c.args.high c.args.slots.now c.is_sorted_by.result
+    (cases_from_all _ _ true (λ s. lies c.args.low c.args.high s ≡ true) (λ s. lies c.args.low c.args.high s ≡ false) c.if-all.ensures.ran (YieldsList-from_slice c.args.slots.now c.iter.ensures.rest) (λ x q k. search (rules, tests)) (λ x q k. search (rules, tests)))
+    sorted
 
-pub loop-slot-preserved : goal.loop-slot-preserved
-loop-slot-preserved c =
-    ascends_more c.loop-slot.least c.args.high c.args.slots.now c.loop-slot.slot-index c.slot-item.result c.loop-slot-test.true c.slot-item.is c.if-index-least.false c.if-index-most.false
-    ∙ c.loop-slot.invariant
-
-pub returns : goal.returns
-returns c = sym (ascends_all c.loop-slot.least c.args.high c.args.slots.now c.loop-slot.slot-index c.loop-slot-test.false) ∙ c.loop-slot.invariant
+pub returns-else-all : goal.returns-else-all
+returns-else-all c =
+    c.if-all.false ∙ ascends_not c.args.low c.args.high c.args.slots.now
+    (cases_from_all _ _ false (λ s. lies c.args.low c.args.high s ≡ true) (λ s. lies c.args.low c.args.high s ≡ false) c.if-all.ensures.ran (YieldsList-from_slice c.args.slots.now c.iter.ensures.rest) (λ x q k. search (rules, tests)) (λ x q k. search (rules, tests)))
