@@ -2,8 +2,7 @@
 use Rattle.std.proofs.Common.{◌≡◌, ℕ, ◌+◌, ◌<◌, ◌≤◌, Bool, true, false, not, cond, eqb, ltb, List, [], ◌∷◌, length, take, drop, Some, None, refl, ap, subst, ◌∙◌, one-add, add-one, ◌-◌, arith}
 use Rattle.std.proofs.lemmas.Bool.{cond_both, ltb-false}
 use Rattle.std.proofs.lemmas.List.{take_rest, take_all, at_drop_all}
-use Rattle.std.specs.List.{position_or_len}
-use Rattle.field.specs.Fields.{onto}
+use Rattle.std.specs.List.{position_or_len, onto_first}
 use Rattle.chart.specs.Lines.{lines_of}
 
 -- how many bytes stand before the first newline
@@ -20,9 +19,9 @@ lines_first (b ∷ []) h = by (eqb b 10)
     by false = refl
 lines_first (b ∷ c ∷ cs) h = by (eqb b 10) (line_end (c ∷ cs)) (lines_first (c ∷ cs) (omega arith))
   where
-    by : (t : Bool) (n : ℕ) → lines_of (c ∷ cs) ≡ take n (c ∷ cs) ∷ lines_of (drop (n + 1) (c ∷ cs)) → cond t ([] ∷ lines_of (c ∷ cs)) (onto b (lines_of (c ∷ cs))) ≡ take (cond (not t) (1 + n) 0) (b ∷ c ∷ cs) ∷ lines_of (drop (cond (not t) (1 + n) 0 + 1) (b ∷ c ∷ cs))
+    by : (t : Bool) (n : ℕ) → lines_of (c ∷ cs) ≡ take n (c ∷ cs) ∷ lines_of (drop (n + 1) (c ∷ cs)) → cond t ([] ∷ lines_of (c ∷ cs)) (onto_first b (lines_of (c ∷ cs))) ≡ take (cond (not t) (1 + n) 0) (b ∷ c ∷ cs) ∷ lines_of (drop (cond (not t) (1 + n) 0 + 1) (b ∷ c ∷ cs))
     by true n e = refl
-    by false n e = rw (one-add, add-one) (rw add-one at (ap (onto b) e))
+    by false n e = rw (one-add, add-one) (rw add-one at (ap (onto_first b) e))
 
 -- a search found its place
 pub line_found : (bs : List ℕ) (end : ℕ) → Some end ≡ cond (ltb (line_end bs) (length bs)) (Some (line_end bs)) None → 0 < length bs → lines_of bs ≡ take end bs ∷ lines_of (take (length bs - (end + 1)) (drop (end + 1) bs))
@@ -46,6 +45,6 @@ pub few_lines : (bs : List ℕ) → length (lines_of bs) ≤ length bs
 few_lines [] = omega arith
 few_lines (b ∷ bs) = cond_both (eqb b 10) _ _ (λ ls. length ls ≤ length (b ∷ bs)) (λ _. omega (arith, few_lines bs)) (λ _. onto_few (lines_of bs) (few_lines bs))
   where
-    onto_few : (ls : List (List ℕ)) → length ls ≤ length bs → length (onto b ls) ≤ length (b ∷ bs)
+    onto_few : (ls : List (List ℕ)) → length ls ≤ length bs → length (onto_first b ls) ≤ length (b ∷ bs)
     onto_few [] h = omega arith
     onto_few (l ∷ ls) h = omega arith

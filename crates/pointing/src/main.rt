@@ -37,10 +37,10 @@ fn read_file(rt: &HostRuntime, name: String) -> anyhow::Result<File> {
 
 /// Reads the catalogue files that the arguments name.
 fn read_files(rt: &HostRuntime) -> anyhow::Result<Vec<File>> {
-    let mut files = Vec::new(rt.alloc());
-    for name in env::args(rt)?.skip(1) {
-        files.push(read_file(rt, name)?)?;
-    }
+    let names = env::args(rt)?.skip(1);
+    let files: Vec<File> = names
+        .map(|name| read_file(rt, name))
+        .try_collect(rt.alloc())?;
     ensure!(
         !files.is_empty(),
         "no catalogue is given; call it as: pointing CATALOGUE .. < WISHES"
