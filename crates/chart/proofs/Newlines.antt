@@ -1,48 +1,50 @@
--- The lines of a text, byte by byte.
-use Rattle.std.proofs.Common.{◌≡◌, ℕ, suc, ◌+◌, ◌<◌, ◌≤◌, false, eqb, List, [], ◌∷◌, ◌++◌, length, get_or, take, drop, sym, refl, ap, ◌∙◌, arith}
-use Rattle.std.proofs.lemmas.List.{at_drop_more, at_drop_all, take-append-drop, take_all, get_or-take, length-take-le, nil_from_length}
-use Rattle.std.proofs.lemmas.Bool.{ne_eqb, cond_both}
-use Rattle.field.specs.Fields.{onto}
+-- The lines of a text.
+use Rattle.std.proofs.Common.{◌≡◌, ℕ, ◌+◌, ◌<◌, ◌≤◌, Bool, true, false, not, cond, eqb, ltb, List, [], ◌∷◌, length, take, drop, Some, None, refl, ap, subst, ◌∙◌, one-add, add-one, ◌-◌, arith}
+use Rattle.std.proofs.lemmas.Bool.{cond_both, ltb-false}
+use Rattle.std.proofs.lemmas.List.{take_rest, take_all, at_drop_all}
+use Rattle.std.specs.List.{position_or_len, onto_first}
 use Rattle.chart.specs.Lines.{lines_of}
 
--- no newline among the first n bytes
-abbrev pub Clear : ℕ → List ℕ → Type 0
-Clear n bs = (k : ℕ) → k < n → get_or bs k 0 ≡ 10 → ⊥
+-- how many bytes stand before the first newline
+abbrev pub line_end : List ℕ → ℕ
+line_end bs = position_or_len (λ b. eqb b 10) bs
 
-lines_last : (b : ℕ) (bs : List ℕ) → Clear (length (b ∷ bs)) (b ∷ bs) → lines_of (b ∷ bs) ≡ (b ∷ bs) ∷ []
-lines_last b [] h = rw (ne_eqb b 10 (h 0 (omega arith)))
-lines_last b (c ∷ cs) h = rw (ne_eqb b 10 (h 0 (omega arith)), lines_last c cs (λ k l. h (suc k) (omega arith)))
+-- the first line, and those behind it
+pub lines_first : (bs : List ℕ) → 0 < length bs → lines_of bs ≡ take (line_end bs) bs ∷ lines_of (drop (line_end bs + 1) bs)
+lines_first [] h = absurd (omega arith)
+lines_first (b ∷ []) h = by (eqb b 10)
+  where
+    by : (t : Bool) → cond t ([] ∷ []) ((b ∷ []) ∷ []) ≡ take (cond (not t) (1 + 0) 0) (b ∷ []) ∷ lines_of (drop (cond (not t) (1 + 0) 0 + 1) (b ∷ []))
+    by true = refl
+    by false = refl
+lines_first (b ∷ c ∷ cs) h = by (eqb b 10) (line_end (c ∷ cs)) (lines_first (c ∷ cs) (omega arith))
+  where
+    by : (t : Bool) (n : ℕ) → lines_of (c ∷ cs) ≡ take n (c ∷ cs) ∷ lines_of (drop (n + 1) (c ∷ cs)) → cond t ([] ∷ lines_of (c ∷ cs)) (onto_first b (lines_of (c ∷ cs))) ≡ take (cond (not t) (1 + n) 0) (b ∷ c ∷ cs) ∷ lines_of (drop (cond (not t) (1 + n) 0 + 1) (b ∷ c ∷ cs))
+    by true n e = refl
+    by false n e = rw (one-add, add-one) (rw add-one at (ap (onto_first b) e))
 
-lines_more : (xs ys : List ℕ) → Clear (length xs) xs → lines_of (xs ++ 10 ∷ ys) ≡ xs ∷ lines_of ys
-lines_more [] ys h = refl
-lines_more (x ∷ xs) ys h = rw (ne_eqb x 10 (h 0 (omega arith)), lines_more xs ys (λ k l. h (suc k) (omega arith)))
+-- a search found its place
+pub line_found : (bs : List ℕ) (end : ℕ) → Some end ≡ cond (ltb (line_end bs) (length bs)) (Some (line_end bs)) None → 0 < length bs → lines_of bs ≡ take end bs ∷ lines_of (take (length bs - (end + 1)) (drop (end + 1) bs))
+line_found bs end e h = rw (take_rest) (subst (λ n. lines_of bs ≡ take n bs ∷ lines_of (drop (n + 1) bs)) (found (ltb (line_end bs) (length bs)) (line_end bs) e) (lines_first bs h))
+  where
+    found : (t : Bool) (n : ℕ) → Some end ≡ cond t (Some n) None → n ≡ end
+    found true n e = cc
+    found false n e = cc
 
--- a newline at the place i, and none before it
-pub line_at : (bs : List ℕ) (i : ℕ) → i < length bs → Clear i bs → get_or bs i 0 ≡ 10 → lines_of bs ≡ take i bs ∷ lines_of (drop (i + 1) bs)
-line_at bs i h clear newline =
-    let n : length (take i bs) ≡ i = length-take-le i bs (omega arith) in
-    let free : Clear (length (take i bs)) (take i bs) = λ k l e. clear k (omega arith) (sym (get_or-take i bs k 0 (omega arith)) ∙ e) in
-    ap lines_of (sym (take-append-drop i bs) ∙ at_drop_more (λ ys. take i bs ++ ys) bs i 0 h ∙ ap (λ b. take i bs ++ (b ∷ drop (i + 1) bs)) newline) ∙ lines_more (take i bs) (drop (i + 1) bs) free
-
--- no newline at all
-pub line_whole : (bs : List ℕ) → 0 < length bs → Clear (length bs) bs → lines_of bs ≡ take (length bs) bs ∷ lines_of (drop (length bs + 1) bs)
-line_whole [] h clear = absurd (omega arith)
-line_whole (b ∷ bs) h clear =
-    lines_last b bs clear
-    ∙ sym (at_drop_all (λ ys. take (length (b ∷ bs)) (b ∷ bs) ∷ lines_of ys) (b ∷ bs) (length (b ∷ bs) + 1) (omega arith) ∙ ap (λ (xs : List ℕ). xs ∷ []) (take_all (length (b ∷ bs)) (b ∷ bs) (omega arith)))
+-- it found none
+pub line_whole : (bs : List ℕ) → None ≡ cond (ltb (line_end bs) (length bs)) (Some (line_end bs)) None → 0 < length bs → lines_of bs ≡ bs ∷ []
+line_whole bs e h =
+    let past : length bs ≤ line_end bs = missed (line_end bs) e in
+    lines_first bs h ∙ ap (λ xs. xs ∷ lines_of (drop (line_end bs + 1) bs)) (take_all (line_end bs) bs past) ∙ at_drop_all (λ xs. bs ∷ lines_of xs) bs (line_end bs + 1) (omega arith)
+  where
+    missed : (n : ℕ) → None ≡ cond (ltb n (length bs)) (Some n) None → length bs ≤ n
+    missed n e = cond_both (ltb n (length bs)) (Some n) None (λ o. None ≡ o → length bs ≤ n) (λ _ z. absurd (let q : ◌≡◌ {A = ℕ} 0 1 = cc in omega arith)) (λ f _. ltb-false n (length bs) f) e
 
 -- there are no more lines than bytes
 pub few_lines : (bs : List ℕ) → length (lines_of bs) ≤ length bs
 few_lines [] = omega arith
 few_lines (b ∷ bs) = cond_both (eqb b 10) _ _ (λ ls. length ls ≤ length (b ∷ bs)) (λ _. omega (arith, few_lines bs)) (λ _. onto_few (lines_of bs) (few_lines bs))
   where
-    onto_few : (ls : List (List ℕ)) → length ls ≤ length bs → length (onto b ls) ≤ length (b ∷ bs)
+    onto_few : (ls : List (List ℕ)) → length ls ≤ length bs → length (onto_first b ls) ≤ length (b ∷ bs)
     onto_few [] h = omega arith
     onto_few (l ∷ ls) h = omega arith
-
-pub no_lines : (bs : List ℕ) → length bs ≡ 0 → lines_of bs ≡ []
-no_lines bs e = ap lines_of (nil_from_length bs e)
-
-pub some_bytes : (bs : List ℕ) → eqb (length bs) 0 ≡ false → 0 < length bs
-some_bytes [] e = let z : ◌≡◌ {A = ℕ} 0 1 = cc in absurd (omega arith)
-some_bytes (b ∷ bs) e = omega arith

@@ -1,9 +1,11 @@
 //! The stars of all catalogue files.
-ghost use Rattle.std.specs.Prelude.{◌≡◌, ◌++◌, map, IfOk, Ok, OnOk};
+ghost use Rattle.std.specs.Prelude.{◌≡◌, ◌++◌, ◌≤◌, map, IfOk, Some, Ok, OnOk, vec_len};
 ghost use Rattle.std.specs.Option.{option_map};
 ghost use Rattle.sky.specs.Stars.{row};
 ghost use Rattle.chart.specs.Lines.{lines_of};
 ghost use Rattle.chart.specs.Rows.{seen_row, if_new, judged, skipped, named, with_line, charted, unused_at, unused, rows_of};
+ghost use Rattle.chart.specs.Words.{trouble_words};
+ghost use Rattle.chart.specs.declared.chart.RowTrouble.TheVariants.{Fault};
 
 use crate::lines::Lines;
 use sky::fault::RowFault;
@@ -11,6 +13,7 @@ use sky::names::find;
 use sky::rows::read_row;
 use sky::star::Star;
 use std::alloc::{AllocError, Global};
+use std::fmt;
 
 /// Why a row is not used.
 #[derive(Clone, Copy)]
@@ -19,6 +22,34 @@ pub enum RowTrouble {
     Fault(RowFault),
     /// The name stands in an earlier row, which holds.
     Taken,
+}
+
+impl From<RowFault> for RowTrouble {
+    ghost from_gives = { λ fault trouble. trouble ≡ Fault fault };
+
+    fn from(fault: RowFault) -> RowTrouble {
+        RowTrouble::Fault(fault)
+    }
+}
+
+/// Writes it as a sentence for a reader.
+impl fmt::Display for RowTrouble {
+    ghost output = { λ trouble. Some (trouble_words trouble) };
+
+    fn fmt<W: fmt::Write>(&self, f: &mut fmt::Formatter<W>) -> fmt::Result {
+        f.write_str(match self {
+            RowTrouble::Fault(RowFault::Fields) => "the row is not NAME,ASCENSION,DECLINATION",
+            RowTrouble::Fault(RowFault::Name) =>
+                "the name is not 1 to 40 bytes of UTF-8 without { } :",
+            RowTrouble::Fault(RowFault::Ascension) => {
+                "the right ascension is no whole number from 0 to 1295999999"
+            }
+            RowTrouble::Fault(RowFault::Declination) => {
+                "the declination is no whole number from -324000000 to 324000000"
+            }
+            RowTrouble::Taken => "the name stands in an earlier row, which holds",
+        })
+    }
 }
 
 /// A row that is not used, by its line, counted from 1.
@@ -38,27 +69,25 @@ pub struct Chart {
 fn keep_new(stars: &[Star], star: Star) -> Result<Star, RowTrouble>
     ensures { seen_row result ≡ if_new (map row stars.now) (Ok (row star)) }
 {
-    match find(stars, star.name().as_bytes()) {
-        Some(_) => Err(RowTrouble::Taken),
-        None => Ok(star),
+    if find(stars, star.name().as_bytes()).is_some() {
+        return Err(RowTrouble::Taken);
     }
+    Ok(star)
 }
 
 /// The star of a row, if its name is new among these stars.
 fn judge_row(stars: &[Star], line: &[u8]) -> Result<Star, RowTrouble>
     ensures { seen_row result ≡ judged (map row stars.now) line.now }
 {
-    match read_row(line) {
-        Ok(star) => keep_new(stars, star),
-        Err(fault) => Err(RowTrouble::Fault(fault)),
-    }
+    let star = read_row(line)?;
+    keep_new(stars, star)
 }
 
 /// Whether a line is empty or a comment.
 fn is_skipped(line: &[u8]) -> bool
     ensures { result ≡ skipped line.now }
 {
-    line.is_empty() || line[0] == b'#'
+    matches!(line, [] | [b'#', ..])
 }
 
 impl Chart {
@@ -66,9 +95,8 @@ impl Chart {
     pub fn star(&self, name: &[u8]) -> Option<Star>
         ensures { option_map row result ≡ named name.now (rows_of self.now) }
     {
-        let stars = self.stars.as_slice();
-        let place = find(stars, name)?;
-        Some(stars[place])
+        let place = find(&self.stars, name)?;
+        Some(self.stars[place])
     }
 
     /// Adds the star of a line, or notes why the row is not used.
@@ -80,17 +108,16 @@ impl Chart {
     ) -> Result<(), AllocError>
         ensures rows { OnOk result (rows_of self.new ≡ with_line (rows_of self.old) line.now) }
         ensures unused { OnOk result (unused.new.items ≡ unused.old.items ++ unused_at number (rows_of self.old) line.now) }
+        ensures grows { OnOk result (vec_len self.old.stars ≤ vec_len self.new.stars) }
     {
         if is_skipped(line) {
             return Ok(());
         }
-        match judge_row(self.stars.as_slice(), line) {
+        match judge_row(&self.stars, line) {
             Ok(star) => self.stars.push(star)?,
             Err(trouble) => {
-                unused.push(UnusedRow {
-                    line: number,
-                    trouble,
-                })?;
+                let line = number;
+                unused.push(UnusedRow { line, trouble })?;
             }
         }
         Ok(())
@@ -100,13 +127,11 @@ impl Chart {
     pub fn add_rows(&mut self, heap: Global, file: &[u8]) -> Result<Vec<UnusedRow>, AllocError>
         ensures rows { OnOk result (rows_of self.new ≡ charted (rows_of self.old) (lines_of file.now)) }
         ensures unused { IfOk result (λ us. us.items ≡ unused 1 (rows_of self.old) (lines_of file.now)) }
+        ensures grows { OnOk result (vec_len self.old.stars ≤ vec_len self.new.stars) }
     {
         let mut unused = Vec::new(heap);
-        let mut lines = Lines::new(file);
-        let mut number = 0;
-        while let Some(line) = lines.next_line() {
-            number += 1;
-            self.add_line(&mut unused, number, line)?;
+        for (index, line) in Lines::new(file).enumerate() {
+            self.add_line(&mut unused, index + 1, line)?;
         }
         Ok(unused)
     }

@@ -1,7 +1,6 @@
 //! The lines of a file.
-ghost use Rattle.std.specs.Prelude.{◌≡◌, ◌+◌, ◌<◌, ◌≤◌, ◌∷◌, length, take, drop};
-ghost use Rattle.std.specs.Option.{option_map};
-ghost use Rattle.field.specs.Fields.{first};
+ghost use Rattle.std.specs.Prelude.{◌≡◌, ◌<◌, ◌≤◌, ◌∷◌, length};
+ghost use Rattle.std.specs.Iterator.{YieldsFirstRef, item_count};
 ghost use Rattle.chart.specs.Lines.{lines_of, left};
 
 /// The lines of a text that are still to come. Any bytes may stand in a line; only a newline ends it, and the last line
@@ -11,49 +10,39 @@ pub struct Lines<'a> {
     rest: &'a [u8],
 }
 
-/// How many bytes stand before the first newline.
-fn line_end(text: &[u8]) -> usize
-    ensures within { result ≤ length text.now }
-    ensures line { 0 < length text.now → lines_of text.now ≡ take result text.now ∷ lines_of (drop (result + 1) text.now) }
+/// The first line of a text, and what stands behind it.
+fn split_line(text: &[u8]) -> (&[u8], &[u8])
+    ensures { 0 < length text.now → lines_of text.now ≡ result.0.now ∷ lines_of result.1.now }
 {
-    for (i, b) in text.iter().enumerate() {
-        if *b == b'\n' {
-            return i;
-        }
-    }
-    text.len()
-}
-
-/// What stands behind the byte at the place.
-fn behind(text: &[u8], place: usize) -> &[u8]
-    ensures { result.now ≡ drop (place + 1) text.now }
-{
-    if place < text.len() {
-        &text[place + 1..]
-    } else {
-        &[]
+    match text.iter().position(|b| *b == b'\n') {
+        Some(end) => (&text[..end], &text[end + 1..]),
+        None => (text, &[]),
     }
 }
 
 impl<'a> Lines<'a> {
     /// The lines of a text.
     pub fn new(text: &'a [u8]) -> Lines<'a>
-        ensures { left result ≡ lines_of text.now }
+        ensures lines { left result ≡ lines_of text.now }
+        ensures few { length (left result) ≤ length text.now }
     {
         Lines { rest: text }
     }
+}
 
-    /// The next line, if there is one.
-    pub fn next_line(&mut self) -> Option<&'a [u8]>
-        ensures line { option_map (λ x. x.now) result ≡ first (left self.old) }
-        ensures after { left self.new ≡ drop 1 (left self.old) }
-    {
-        let text = self.rest;
-        if text.is_empty() {
+impl<'a> Iterator for Lines<'a> {
+    type Item = &'a [u8];
+
+    ghost next_gives = { YieldsFirstRef left };
+
+    ghost remaining = { item_count left };
+
+    fn next(&mut self) -> Option<&'a [u8]> {
+        if self.rest.is_empty() {
             return None;
         }
-        let end = line_end(text);
-        self.rest = behind(text, end);
-        Some(&text[..end])
+        let (line, rest) = split_line(self.rest);
+        self.rest = rest;
+        Some(line)
     }
 }

@@ -7,15 +7,13 @@
 //! wish that cannot be used is told with its line and the reason.
 #![tactic(auto)]
 
-mod chart;
-mod lines;
 mod orders;
 mod sheet;
 mod texts;
 mod wishes;
 
-use anyhow::anyhow;
-use chart::Chart;
+use anyhow::{anyhow, ensure};
+use chart::chart::Chart;
 use orders::print_orders;
 use sheet::{print_ready, print_rest, print_tally};
 use stars::rows::StarRows;
@@ -33,21 +31,20 @@ struct File {
 
 /// Reads one catalogue file.
 fn read_file(rt: &HostRuntime, name: String) -> anyhow::Result<File> {
-    match fs::read(rt, name.as_str()) {
-        Ok(bytes) => Ok(File { name, bytes }),
-        Err(e) => Err(anyhow!(format!(in rt.alloc(); "cannot read {name}: {e}")?)),
-    }
+    let bytes = fs::read(rt, name.as_str()).map_err(|e| anyhow!("cannot read {name}: {e}"))?;
+    Ok(File { name, bytes })
 }
 
 /// Reads the catalogue files that the arguments name.
 fn read_files(rt: &HostRuntime) -> anyhow::Result<Vec<File>> {
-    let mut files = Vec::new(rt.alloc());
-    for name in env::args(rt)?.skip(1) {
-        files.push(read_file(rt, name)?)?;
-    }
-    if files.is_empty() {
-        return Err(anyhow!("no catalogue is given; call it as: pointing CATALOGUE .. < WISHES"));
-    }
+    let names = env::args(rt)?.skip(1);
+    let files: Vec<File> = names
+        .map(|name| read_file(rt, name))
+        .try_collect(rt.alloc())?;
+    ensure!(
+        !files.is_empty(),
+        "no catalogue is given; call it as: pointing CATALOGUE .. < WISHES"
+    );
     Ok(files)
 }
 
@@ -61,30 +58,28 @@ fn read_input(rt: &HostRuntime) -> io::Result<Vec<u8>> {
 /// The stars of all files. Prints what became of the rows of each.
 fn chart_of(rt: &HostRuntime, files: &[File]) -> io::Result<Chart> {
     let heap = rt.alloc();
-    let mut chart = Chart::new(heap);
+    let stars = Vec::new(heap);
+    let mut chart = Chart { stars };
     for file in files {
-        let tally = chart.add_rows(heap, file.bytes.as_slice())?;
-        print_tally(rt, file.name.as_str(), &tally)?;
+        let before = chart.stars.len();
+        let unused = chart.add_rows(heap, &file.bytes)?;
+        let used = chart.stars.len() - before;
+        print_tally(rt, file.name.as_str(), used, &unused)?;
     }
     Ok(chart)
 }
 
-/// Prints what goes to the mount, from the stars as star rows.
+/// Prints what goes to the mount, from the stars as star rows. With no star there is nothing to print.
 fn print_night(rt: &HostRuntime, chart: Chart, wishes: &Wishes) -> anyhow::Result<()> {
     let count = chart.stars.len();
-    match StarRows::new(chart.stars) {
-        Ok(rows) => {
-            print_ready(rt, &rows, wishes.targets.as_slice())?;
-            print_orders(rt, wishes.targets.as_slice())?;
-        }
-        Err(_) => {
-            if count > 0 {
-                return Err(anyhow!(format!(in rt.alloc();
-                    "{count} stars are too many: star rows hold up to 20000"
-                )?));
-            }
-        }
+    if count == 0 {
+        return Ok(());
     }
+    let rows = StarRows::new(chart.stars).map_err(|_| anyhow!(
+        "{count} stars are too many: star rows hold up to 20000"
+    ))?;
+    print_ready(rt, &rows, &wishes.targets)?;
+    print_orders(rt, &wishes.targets)?;
     Ok(())
 }
 
@@ -92,8 +87,8 @@ fn print_night(rt: &HostRuntime, chart: Chart, wishes: &Wishes) -> anyhow::Resul
 fn run(rt: &HostRuntime) -> anyhow::Result<()> {
     let files = read_files(rt)?;
     let input = read_input(rt)?;
-    let chart = chart_of(rt, files.as_slice())?;
-    let wishes = Wishes::judge(rt.alloc(), &chart, input.as_slice())?;
+    let chart = chart_of(rt, &files)?;
+    let wishes = Wishes::judge(rt.alloc(), &chart, &input)?;
     print_night(rt, chart, &wishes)?;
     print_rest(rt, &wishes)?;
     Ok(())

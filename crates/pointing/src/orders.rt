@@ -1,6 +1,6 @@
 //! What is sent to the mount: a write request for each target.
 use crate::wishes::Target;
-use packet::packet::{Body, read_packet};
+use packet::packet::{Body, Packet, read_packet};
 use protocol::refusal::Refusal;
 use sky::star::Star;
 use std::alloc::{AllocError, Global};
@@ -17,8 +17,8 @@ const ASCENSION: u16 = 101;
 
 const DECLINATION: u16 = 102;
 
-/// Writes the request that points the mount at a star, and tells its length.
-fn write_order(row: &mut [u8], number: u16, star: &Star) -> Result<usize, Refusal> {
+/// Writes the request that points the mount at a star into a row, and gives the part of the row that it fills.
+fn write_order<'a>(row: &'a mut [u8; 512], number: u16, star: &Star) -> Result<&'a [u8], Refusal> {
     let name = Value::St(star.name()).spelling();
     let ascension = Value::In(star.ascension()).spelling();
     let declination = Value::In(star.declination()).spelling();
@@ -27,25 +27,21 @@ fn write_order(row: &mut [u8], number: u16, star: &Star) -> Result<usize, Refusa
         Change::new(ASCENSION, ascension.as_bytes()),
         Change::new(DECLINATION, declination.as_bytes()),
     ];
-    write_write_request(row, number, &changes)
+    let length = write_write_request(row, number, &changes)?;
+    Ok(&row[..length])
 }
 
 /// What a write request asks for, as it is read.
 fn read_order(heap: Global, bytes: &[u8]) -> Result<String, AllocError> {
     let mut told = String::new(heap);
-    let Ok(packet) = read_packet(bytes) else {
-        return Ok(told);
-    };
-    let Body::WriteRequest(writes) = packet.body else {
-        return Ok(told);
-    };
-    let mut groups = writes;
-    for _k in 0..packet.count() {
-        if let Some(group) = groups.next_write() {
-            let index = group.index;
-            let text = group.text.text;
-            let part = format!(in heap; " {index}={text}")?;
-            told.push_str(part.as_str())?;
+    if let Ok(packet) = read_packet(bytes)
+        && let Body::WriteRequest(writes) = packet.body
+    {
+        let mut groups = writes;
+        for _k in 0..packet.count() {
+            if let Some(group) = groups.next_write() {
+                write!(told, " {}={}", group.index, group.text.text)?;
+            }
         }
     }
     Ok(told)
@@ -53,19 +49,13 @@ fn read_order(heap: Global, bytes: &[u8]) -> Result<String, AllocError> {
 
 /// Prints the request of one target, and what a mount reads in it.
 fn print_order(rt: &HostRuntime, number: u16, target: &Target) -> io::Result<()> {
-    let heap = rt.alloc();
     let line = target.line;
-    let mut row = vec![in heap; 0u8; 512]?;
-    match write_order(row.as_mut_slice(), number, &target.star) {
-        Ok(length) => {
-            let sent = row.as_slice();
-            if length > sent.len() {
-                return println!(rt; "{line:>4}  no packet");
-            }
-            let packet = &sent[0..length];
+    let mut row = [0u8; 512];
+    match write_order(&mut row, number, &target.star) {
+        Ok(packet) => {
             let text = from_utf8(packet).unwrap_or("");
             println!(rt; "{line:>4}  {text}")?;
-            let read = read_order(heap, packet)?;
+            let read = read_order(rt.alloc(), packet)?;
             println!(rt; "      reads:{read}")
         }
         Err(refusal) => {
@@ -81,10 +71,9 @@ pub fn print_orders(rt: &HostRuntime, targets: &[Target]) -> io::Result<()> {
         return Ok(());
     }
     println!(rt; "\nWhat is sent to the mount")?;
-    let mut number = 0u16;
-    for target in targets {
+    for (index, target) in targets.iter().enumerate() {
+        let number = u16::try_from(index).unwrap_or(u16::MAX);
         print_order(rt, number, target)?;
-        number = number.saturating_add(1);
     }
     Ok(())
 }

@@ -3,7 +3,7 @@ ghost use Rattle.std.specs.Prelude.{◌≡◌};
 ghost use Rattle.protocol.specs.Held.{text_bytes};
 
 use protocol::text::Text;
-use std::alloc::{AllocError, Global};
+use std::fmt;
 use std::str::from_utf8;
 
 /// The text as characters, which it always is.
@@ -16,16 +16,19 @@ fn as_str(text: &Text) -> &str
     }
 }
 
-/// The text as it can be printed in one line: a control character is shown by its number.
-pub fn printable(heap: Global, text: &Text) -> Result<String, AllocError> {
-    let mut out = String::new(heap);
-    for c in as_str(text).chars() {
-        if c.is_control() {
-            let code = u32::from(c);
-            out.push_str(format!(in heap; "\\x{code:02x}")?.as_str())?;
-        } else {
-            out.push(c)?;
+/// A text that prints in one line: a control character is shown by its number.
+#[derive(Clone, Copy)]
+pub struct Printable<'a>(pub &'a Text);
+
+impl fmt::Display for Printable<'_> {
+    fn fmt<W: fmt::Write>(&self, f: &mut fmt::Formatter<W>) -> fmt::Result {
+        for c in as_str(self.0).chars() {
+            if c.is_control() {
+                write!(f, "\\x{:02x}", u32::from(c))?;
+            } else {
+                write!(f, "{c}")?;
+            }
         }
+        Ok(())
     }
-    Ok(out)
 }

@@ -2,12 +2,14 @@
 ghost use Rattle.std.specs.Prelude.{◌≡◌, ◌<◌, length, IfOk};
 ghost use Rattle.pointing.specs.Judged.{seen_wish, judged_wish};
 
-use crate::chart::Chart;
-use crate::lines::lines;
+use crate::texts::Printable;
+use chart::chart::Chart;
+use chart::lines::Lines;
 use protocol::text::Text;
 use sky::names::find;
 use sky::star::Star;
 use std::alloc::{AllocError, Global};
+use std::fmt;
 
 /// Why a wish is not ready.
 #[derive(Clone, Copy)]
@@ -16,6 +18,21 @@ pub enum WishTrouble {
     NoText,
     /// No star of the catalogue has this name.
     Unknown(Text),
+}
+
+/// Writes it as a sentence for a reader.
+impl fmt::Display for WishTrouble {
+    fn fmt<W: fmt::Write>(&self, f: &mut fmt::Formatter<W>) -> fmt::Result {
+        match self {
+            WishTrouble::NoText => {
+                f.write_str("this is no name: not 1 to 40 bytes of UTF-8 without { } :")
+            }
+            WishTrouble::Unknown(name) => {
+                let name = Printable(name);
+                write!(f, "\"{name}\" is not in the catalogue")
+            }
+        }
+    }
 }
 
 /// A wish that is ready, by its line: the star, and its row in the catalogue, counted from 0.
@@ -45,13 +62,8 @@ fn judge_wish(stars: &[Star], line: &[u8]) -> Result<usize, WishTrouble>
     ensures wish { seen_wish result ≡ judged_wish stars.now line.now }
     ensures within { IfOk result (λ k. k < length stars.now) }
 {
-    let Some(name) = Text::new(line) else {
-        return Err(WishTrouble::NoText);
-    };
-    match find(stars, line) {
-        Some(place) => Ok(place),
-        None => Err(WishTrouble::Unknown(name)),
-    }
+    let name = Text::new(line).ok_or(WishTrouble::NoText)?;
+    find(stars, line).ok_or(WishTrouble::Unknown(name))
 }
 
 impl Wishes {
@@ -59,16 +71,14 @@ impl Wishes {
     pub fn judge(heap: Global, chart: &Chart, input: &[u8]) -> Result<Wishes, AllocError> {
         let mut targets = Vec::new(heap);
         let mut misses = Vec::new(heap);
-        let stars = chart.stars.as_slice();
-        let wishes = lines(heap, input)?;
-        for (i, wish) in wishes.iter().enumerate() {
+        for (index, wish) in Lines::new(input).enumerate() {
             if wish.is_empty() {
                 continue;
             }
-            let line = i + 1;
-            match judge_wish(stars, wish) {
+            let line = index + 1;
+            match judge_wish(&chart.stars, wish) {
                 Ok(row) => {
-                    let star = stars[row];
+                    let star = chart.stars[row];
                     targets.push(Target { line, row, star })?;
                 }
                 Err(trouble) => misses.push(Miss { line, trouble })?,
