@@ -3,7 +3,7 @@
 --     good_back     it is read back
 --     good_size     and has at most 485 bytes
 --     good          a message is good if its groups keep their rules
-use Rattle.std.proofs.Common.{◌≡◌, ℕ, ◌*◌, ◌<◌, ◌≤◌, Bool, true, List, [], ◌∷◌, ◌++◌, length, take, drop, pos, is_some, Some, None, Ok, Err, codes, decimal, Option, Result, sym, refl, ap, ◌∙◌, append_assoc, arith, length-append, rules}
+use Rattle.std.proofs.Common.{◌≡◌, ℕ, ◌*◌, ◌<◌, ◌≤◌, Bool, true, subst, List, [], ◌∷◌, ◌++◌, length, take, drop, pos, is_some, Some, None, Ok, Err, codes, decimal, Option, Result, sym, refl, ap, ◌∙◌, append_assoc, arith, length-append, rules}
 use Rattle.std.specs.List.{flat_map, AllByRecursion}
 use Rattle.std.proofs.ByRecursion.{IsAscii-from_all, All-append, All-weaker}
 use Rattle.std.proofs.lemmas.Fmt.{length-decimal-le}
@@ -25,9 +25,11 @@ use Rattle.field.specs.declared.words.Command.TheVariants.{Read, Write, Discover
 use Rattle.packet.specs.Heads.{Goes}
 use Rattle.packet.specs.Messages.{Message, Content, Bounded, Kept, count_of, direction_of, command_of, content_by, message_by, after_head, after_frame, packet_of, read_request, write_request, discovery_request, read_answer, write_answer, discovery_answer, with_ok}
 use Rattle.writer.specs.Bytes.{head_fields, content_fields, message_fields, colon, parted, bytes_of, index_fields, write_fields, code_fields, readout_fields}
-use Rattle.writer.specs.Puts.{Puts}
-use Rattle.writer.specs.Written.{written, at_start, ReadsBack}
-use Rattle.writer.proofs.Rows.{joined_append, puts_as, puts_two, puts_whole}
+use Rattle.writer.specs.Drafts.{Puts}
+use Rattle.writer.specs.Written.{at_start, written, Wrote, message_head, Spells}
+use Rattle.std.proofs.lemmas.List.Concat.{flat_map-append}
+use Rattle.writer.proofs.Drafts.{parted_more, puts_as, puts_packet}
+use Rattle.packet.specs.declared.head.Head.{Head}
 use Rattle.writer.proofs.Clean.{Clean, clean_textual, fields_parted, plain_parted, text_parted, fields_body}
 use Rattle.writer.proofs.Backs.{head_back, Reads, groups_back, reads_index, reads_write, reads_code, reads_readout}
 use Rattle.std.proofs.lemmas.Bool.{and_parts, false≢true, le-ltb}
@@ -91,28 +93,12 @@ head_size version direction n command h =
     let c = decimal (command_number command) in
     omega (arith, version_three version, direction_one direction, five n h, command_one command, length-append v (flat_map colon (d ∷ k ∷ c ∷ [])), length-append d (flat_map colon (k ∷ c ∷ [])), length-append k (flat_map colon (c ∷ [])), length-append c [])
 
--- the two parts of the fields
-parted_append : (f : List ℕ) (fs gs : List (List ℕ)) → parted ((f ∷ fs) ++ gs) ≡ parted (f ∷ fs) ++ flat_map colon gs
-parted_append f fs gs = ap (λ l. f ++ l) (joined_append colon fs gs) ∙ sym (append_assoc f (flat_map colon fs) (flat_map colon gs))
-
-abbrev pub head_bytes : Message → List ℕ
-head_bytes m = 123 ∷ parted (head_fields m.version (direction_of m.content) m.number (command_of m.content))
-
-abbrev pub payload_bytes : Message → List ℕ
-payload_bytes m = flat_map colon (content_fields m.content)
-
-pub bytes_parts : (m : Message) → head_bytes m ++ (payload_bytes m ++ (125 ∷ [])) ≡ bytes_of m
-bytes_parts m =
-    let hf = head_fields m.version (direction_of m.content) m.number (command_of m.content) in
-    sym (ap (λ l. 123 ∷ (l ++ (125 ∷ []))) (parted_append (version_word m.version) (drop 1 hf) (content_fields m.content))
-    ∙ ap (λ l. 123 ∷ l) (append_assoc (parted hf) (payload_bytes m) (125 ∷ [])))
-
 module _ (m : Message) (g : Good m) where
   parted_size : length (parted (message_fields m)) ≤ 483
   parted_size =
       let hf = head_fields m.version (direction_of m.content) m.number (command_of m.content) in
-      let e = ap length (parted_append (version_word m.version) (drop 1 hf) (content_fields m.content)) in
-      omega (arith, e, length-append (parted hf) (payload_bytes m), g.small, head_size m.version (direction_of m.content) m.number (command_of m.content) g.number)
+      let e = ap length (parted_more (version_word m.version) (drop 1 hf) (content_fields m.content)) in
+      omega (arith, e, length-append (parted hf) (flat_map colon (content_fields m.content)), g.small, head_size m.version (direction_of m.content) m.number (command_of m.content) g.number)
 
   pub good_size : length (bytes_of m) ≤ 485
   good_size = omega (arith, parted_size, length-append (parted (message_fields m)) (125 ∷ []))
@@ -147,7 +133,7 @@ module _ {X : Type 0} (width : ℕ) (group : List (List ℕ) → Result X ℕ) (
 
   pub fine_small : (xs : List X) → AllByRecursion (Fine width group f) xs → length (flat_map colon (flat_map f xs)) ≤ 47 * length xs
   fine_small [] h = omega arith
-  fine_small (x ∷ xs) h = omega (arith, ap length (joined_append colon (f x) (flat_map f xs)), length-append (flat_map colon (f x)) (flat_map colon (flat_map f xs)), h.0.small, fine_small xs h.1)
+  fine_small (x ∷ xs) h = omega (arith, ap length (flat_map-append colon (f x) (flat_map f xs)), length-append (flat_map colon (f x)) (flat_map colon (flat_map f xs)), h.0.small, fine_small xs h.1)
 
 fine_index : (i : ℕ) → i < 65536 → Fine 1 index_group index_fields i
 fine_index i h = record { clean = (clean_decimal i h, tt); reads = reads_index i h; small = omega (arith, five i h, length-append (decimal i) []) }
@@ -284,22 +270,19 @@ good m b g k =
     let p = payload m.content b.some b.few b.both k in
     record { number = b.number; goes = g; clean = p.clean; reads = p.reads; small = p.small }
 
--- a good message that was put into a row, part by part
-pub record Ended (allowed : Bool) (m : Message) (before after : List ℕ) (end : ℕ) : Type 0 where
-  pub told : Ok end ≡ (written allowed m before).told
-  pub row : after ≡ (written allowed m before).row
-  pub back : ReadsBack m end
-  pub front : take end after ≡ bytes_of m
-
-pub ended : {r₁ r₂ after : List ℕ} {i j end : ℕ} (allowed : Bool) (m : Message) (row : List ℕ) → Good m → 512 ≤ length row → true ≡ allowed → Puts row 0 (head_bytes m) r₁ i → Puts r₁ i (payload_bytes m) r₂ j → Puts r₂ j (125 ∷ []) after end → Ended allowed m row after end
-ended {after = after} {end = end} allowed m row g room t p q r =
+-- a message that keeps its rules was put into a draft, part by part, and from there to the front of the row
+pub wrote : {G : Type 0} {d₀ d₁ d₂ d₃ packet copied : List ℕ} (fields : G → List (List ℕ)) (groups : List G) (allowed : Bool) (head : Head) (m : Message) (row : List ℕ) → head ≡ message_head m → Spells fields groups allowed m → allowed ≡ true → 512 ≤ length row → d₀ ≡ [] → Puts d₀ (123 ∷ parted (head_fields head.version head.direction head.number head.command)) d₁ → Puts d₁ (flat_map colon (flat_map fields groups)) d₂ → Puts d₂ (125 ∷ []) d₃ → packet ≡ d₃ → copied ≡ packet → Wrote allowed m row (copied ++ drop (length packet) row) (Ok (length packet))
+wrote {d₀ = d₀} {d₁ = d₁} {d₂ = d₂} {d₃ = d₃} {packet = packet} {copied = copied} fields groups allowed head m row h s t room new p q r e c =
+    let k = s.ruled t in
+    let g = good m k.bounded k.goes k.kept in
     let size = good_size m g in
-    let all = puts_as _ _ (bytes_parts m) (puts_two (head_bytes m) (payload_bytes m ++ (125 ∷ [])) p (puts_two (payload_bytes m) (125 ∷ []) q r)) in
-    let w = puts_whole row (bytes_of m) after end all (omega arith) in
-    let is : written allowed m row ≡ at_start (bytes_of m) row = rw (le-ltb (length row) 512 room, ← t) in
+    let named = subst (λ (k : Head). Puts d₀ (123 ∷ parted (head_fields k.version k.direction k.number k.command)) d₁) h p in
+    let front = subst (λ d. Puts d (123 ∷ parted (head_fields m.version (direction_of m.content) m.number (command_of m.content))) d₁) new named in
+    let middle = puts_as _ _ (ap (flat_map colon) s.same) q in
+    let is : packet ≡ bytes_of m = e ∙ puts_packet (version_word m.version) (drop 1 (head_fields m.version (direction_of m.content) m.number (command_of m.content))) (content_fields m.content) front middle r (omega arith) in
+    let all : written allowed m row ≡ at_start (bytes_of m) row = rw (le-ltb (length row) 512 room, t) in
     record {
-      told = ap Ok w.0 ∙ sym (ap (λ x. x.told) is);
-      row = w.1 ∙ sym (ap (λ x. x.row) is);
-      back = (omega (arith, w.0), good_back m g);
-      front = (λ i. take (w.0 i) (w.1 i)) ∙ take_at (bytes_of m) (drop (length (bytes_of m)) row) (length (bytes_of m)) refl;
+      told = ap (λ l. Ok (length l)) is ∙ sym (ap (λ w. w.told) all);
+      row = (λ i. (c ∙ is) i ++ drop (length (is i)) row) ∙ sym (ap (λ w. w.row) all);
+      back = (omega (arith, ap length is), good_back m g);
     }

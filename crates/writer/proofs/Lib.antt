@@ -1,8 +1,6 @@
-pub mod Each
-pub mod Rows
+pub mod Drafts
 pub mod Clean
 pub mod Backs
 pub mod Goods
 pub mod Allowed
-pub mod Turns
 pub mod Respelling

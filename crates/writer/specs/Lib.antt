@@ -1,5 +1,5 @@
 pub mod Bytes
 pub mod Orders
 pub mod Written
-pub mod Puts
+pub mod Drafts
 pub mod Again

@@ -2,15 +2,28 @@
 ghost use Rattle.std.specs.Prelude.{◌≡◌, ◌&&◌, [], ◌∷◌, map, IfOk};
 ghost use Rattle.field.specs.declared.words.Version.TheVariants.{V11};
 ghost use Rattle.packet.specs.Messages.{read_answer, write_answer, discovery_answer};
-ghost use Rattle.writer.specs.Orders.{counted, readout_of, told, readings_allowed, answered};
+ghost use Rattle.writer.specs.Orders.{counted, readout_of, told, readings_allowed, answered, answered_head};
 ghost use Rattle.writer.specs.Written.{written, ReadsBack};
 
-use crate::limits::{codes_allowed, is_told, readings_allowed};
-use crate::put::{put_bytes, put_codes, put_head, put_reading, put_readings};
+use crate::limits::{all_told, codes_allowed, readings_allowed};
+use crate::write::write;
 use field::words::{Command, Direction, Version};
+use packet::head::Head;
 use protocol::code::Code;
 use protocol::refusal::Refusal;
 use value::value::Value;
+
+/// The head of an answer, in the version of its request.
+fn answer(version: Version, number: u16, command: Command) -> Head
+    ensures { result ≡ answered_head version number command }
+{
+    Head {
+        version,
+        direction: Direction::Answer,
+        number,
+        command,
+    }
+}
 
 /// Writes a read answer, and tells its length.
 pub fn write_read_answer(
@@ -23,15 +36,8 @@ pub fn write_read_answer(
     ensures row { row.new ≡ (written (readings_allowed readings.now) (answered version number (read_answer (map readout_of readings.now))) row.old).row }
     ensures back { IfOk result (ReadsBack (answered version number (read_answer (map readout_of readings.now)))) }
 {
-    if row.len() < 512 {
-        return Err(Refusal::ShortMemory);
-    }
-    if !readings_allowed(readings) {
-        return Err(Refusal::Limit);
-    }
-    let at = put_head(row, version, Direction::Answer, number, Command::Read);
-    let at = put_readings(row, at, readings);
-    Ok(put_bytes(row, at, b"}"))
+    let head = answer(version, number, Command::Read);
+    write(row, readings_allowed(readings), head, readings.iter())
 }
 
 /// Writes a write answer, and tells its length.
@@ -45,15 +51,8 @@ pub fn write_write_answer(
     ensures row { row.new ≡ (written (counted codes.now) (answered version number (write_answer codes.now)) row.old).row }
     ensures back { IfOk result (ReadsBack (answered version number (write_answer codes.now))) }
 {
-    if row.len() < 512 {
-        return Err(Refusal::ShortMemory);
-    }
-    if !codes_allowed(codes) {
-        return Err(Refusal::Limit);
-    }
-    let at = put_head(row, version, Direction::Answer, number, Command::Write);
-    let at = put_codes(row, at, codes);
-    Ok(put_bytes(row, at, b"}"))
+    let head = answer(version, number, Command::Write);
+    write(row, codes_allowed(codes), head, codes.iter())
 }
 
 /// Writes a Discovery answer, and tells its length. Discovery has version 1.1.
@@ -67,20 +66,7 @@ pub fn write_discovery_answer(
     ensures row { row.new ≡ (written (told identifier && told security) (answered V11 number (discovery_answer (readout_of identifier ∷ readout_of security ∷ []))) row.old).row }
     ensures back { IfOk result (ReadsBack (answered V11 number (discovery_answer (readout_of identifier ∷ readout_of security ∷ [])))) }
 {
-    if row.len() < 512 {
-        return Err(Refusal::ShortMemory);
-    }
-    if !is_told(identifier) || !is_told(security) {
-        return Err(Refusal::Limit);
-    }
-    let at = put_head(
-        row,
-        Version::V11,
-        Direction::Answer,
-        number,
-        Command::Discovery,
-    );
-    let at = put_reading(row, at, identifier);
-    let at = put_reading(row, at, security);
-    Ok(put_bytes(row, at, b"}"))
+    let head = answer(Version::V11, number, Command::Discovery);
+    let readings = [identifier, security];
+    write(row, all_told(&readings), head, readings.iter())
 }

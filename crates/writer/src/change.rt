@@ -29,9 +29,6 @@ impl Change {
     pub(crate) fn bytes(&self) -> &[u8]
         ensures { result.now ≡ unwrap_or (option_map text_bytes self.now.text) [] }
     {
-        match &self.text {
-            Some(text) => text.as_bytes(),
-            None => &[],
-        }
+        self.text.as_ref().map_or(&[], Text::as_bytes)
     }
 }

@@ -9,6 +9,8 @@
 pub mod again;
 pub mod answers;
 pub mod change;
+mod draft;
 pub mod limits;
 mod put;
 pub mod requests;
+mod write;

@@ -1,128 +1,135 @@
-//! Putting fields and groups into a row, one behind the other. Each call tells where it ends.
-ghost use Rattle.std.specs.Prelude.{◌<◌, [], ◌∷◌, map, decimal};
-ghost use Rattle.std.specs.List.{flat_map, AllByRecursion};
-ghost use Rattle.writer.specs.Bytes.{colon, parted, head_fields, index_fields, write_fields, code_fields, readout_fields};
-ghost use Rattle.writer.specs.Orders.{change_of, readout_of, Readable};
-ghost use Rattle.writer.specs.Puts.{Puts};
+//! What a draft takes: the groups of a payload.
+ghost use Rattle.std.specs.Prelude.{ℕ, ◌<◌, List, IfOk};
+ghost use Rattle.std.specs.List.{flat_map};
+ghost use Rattle.value.specs.Meant.{kind_of, datum_of};
+ghost use Rattle.value.specs.Values.{spelled, Valid};
+ghost use Rattle.packet.specs.Cursors.{write_of, found_of};
+ghost use Rattle.packet.specs.Groups.{found};
+ghost use Rattle.writer.specs.Again.{again_readout};
+ghost use Rattle.writer.specs.Bytes.{colon, index_fields, write_fields, code_fields, readout_fields};
+ghost use Rattle.writer.specs.Drafts.{Puts, told_fields};
+ghost use Rattle.writer.specs.Orders.{change_of};
 
 use crate::change::Change;
-use field::words::{Command, Direction, Version};
+use crate::draft::Draft;
+use packet::readings::Found;
+use packet::writes::Write;
 use protocol::code::Code;
-use protocol::numeral::Numeral;
-use protocol::row::put;
+use protocol::kind::Kind;
+use value::read::read_value;
 use value::value::Value;
 
-/// Puts bytes into the row.
-pub(crate) fn put_bytes(row: &mut [u8], at: usize, bytes: &[u8]) -> usize
-    ensures { Puts row.old at bytes.now row.new result }
-{
-    put(row, at, bytes)
+/// A group of a payload, which is put into a draft field by field.
+pub(crate) trait Put {
+    // The fields that it is written as.
+    ghost fields: { Self → List (List ℕ) };
+
+    // What its type says of it.
+    ghost fits: { Self → Type 0 } = { λ _. Unit {0} };
+
+    /// Puts the fields of the group.
+    fn put(&self, draft: &mut Draft)
+        ensures puts { Puts draft.old (flat_map colon (fields self.now)) draft.new }
+        ensures fits { fits self.now };
 }
 
-/// Puts a colon and a field.
-pub(crate) fn put_field(row: &mut [u8], at: usize, field: &[u8]) -> usize
-    ensures { Puts row.old at (colon field.now) row.new result }
-{
-    let at = put_bytes(row, at, b":");
-    put_bytes(row, at, field)
-}
+impl<G: Put> Put for &G {
+    ghost fields = { λ group. G.fields group.now };
 
-/// Puts a colon and a number.
-pub(crate) fn put_number(row: &mut [u8], at: usize, number: u16) -> usize
-    ensures puts { Puts row.old at (colon (decimal number)) row.new result }
-    ensures small { number < 65536 }
-{
-    let numeral = Numeral::new(number as u64);
-    put_field(row, at, numeral.as_bytes())
-}
+    ghost fits = { λ group. G.fits group.now };
 
-/// Puts the opening brace and the four fields of the head at the row's start.
-pub(crate) fn put_head(
-    row: &mut [u8],
-    version: Version,
-    direction: Direction,
-    number: u16,
-    command: Command,
-) -> usize
-    ensures { Puts row.old 0 (123 ∷ parted (head_fields version direction number command)) row.new result }
-{
-    let at = put_bytes(row, 0, b"{");
-    let at = put_bytes(row, at, version.word().as_bytes());
-    let at = put_field(row, at, direction.word().as_bytes());
-    let at = put_number(row, at, number);
-    put_number(row, at, command.number() as u16)
-}
-
-/// Puts the groups of a read request.
-pub(crate) fn put_indices(row: &mut [u8], mut at: usize, indices: &[u16]) -> usize
-    ensures { Puts row.old at (flat_map colon (flat_map index_fields indices.now)) row.new result }
-{
-    for index in indices {
-        at = put_number(row, at, *index);
+    fn put(&self, draft: &mut Draft) {
+        (**self).put(draft);
     }
-    at
 }
 
-/// Puts a group of a write request.
-fn put_change(row: &mut [u8], at: usize, change: &Change) -> usize
-    ensures puts { Puts row.old at (flat_map colon (write_fields (change_of change.now))) row.new result }
-    ensures small { (change_of change.now).0 < 65536 }
-{
-    let at = put_number(row, at, change.index);
-    put_field(row, at, change.bytes())
-}
+/// An index.
+impl Put for u16 {
+    ghost fields = { index_fields };
 
-/// Puts the groups of a write request.
-pub(crate) fn put_changes(row: &mut [u8], mut at: usize, changes: &[Change]) -> usize
-    ensures puts { Puts row.old at (flat_map colon (flat_map write_fields (map change_of changes.now))) row.new result }
-    ensures small { AllByRecursion (λ w. w.0 < 65536) (map change_of changes.now) }
-{
-    for change in changes {
-        at = put_change(row, at, change);
+    ghost fits = { λ index. index < 65536 };
+
+    fn put(&self, draft: &mut Draft) {
+        draft.put_number(*self);
     }
-    at
 }
 
-/// Puts the groups of a write answer.
-pub(crate) fn put_codes(row: &mut [u8], mut at: usize, codes: &[Code]) -> usize
-    ensures { Puts row.old at (flat_map colon (flat_map code_fields codes.now)) row.new result }
-{
-    for code in codes {
-        at = put_number(row, at, code.number() as u16);
+/// An index and a text.
+impl Put for Change {
+    ghost fields = { λ change. write_fields (change_of change) };
+
+    ghost fits = { λ change. change.index < 65536 };
+
+    fn put(&self, draft: &mut Draft) {
+        draft.put_number(self.index);
+        draft.put_field(self.bytes());
     }
-    at
 }
 
-/// Puts three fields.
-fn put_three(row: &mut [u8], at: usize, code: u8, word: &[u8], text: &[u8]) -> usize
-    ensures { Puts row.old at (flat_map colon (decimal code ∷ word.now ∷ text.now ∷ [])) row.new result }
-{
-    let at = put_number(row, at, code as u16);
-    let at = put_field(row, at, word);
-    put_field(row, at, text)
+/// An index and a text that were read.
+impl Put for Write<'_> {
+    ghost fields = { λ write. write_fields (write_of write) };
+
+    fn put(&self, draft: &mut Draft) {
+        draft.put_number(self.index);
+        draft.put_field(self.text.text.as_bytes());
+    }
 }
 
-/// Puts a group of a read answer.
-pub(crate) fn put_reading(row: &mut [u8], at: usize, reading: Result<Value, Code>) -> usize
-    ensures puts { Puts row.old at (flat_map colon (readout_fields (readout_of reading))) row.new result }
-    ensures reads { Readable (readout_of reading) }
+impl Put for Code {
+    ghost fields = { code_fields };
+
+    fn put(&self, draft: &mut Draft) {
+        draft.put_number(u16::from(u8::from(*self)));
+    }
+}
+
+/// Puts code 0, a type and a text.
+fn put_found(draft: &mut Draft, kind: Kind, text: &[u8])
+    ensures { Puts draft.old (flat_map colon (readout_fields (found kind text.now))) draft.new }
 {
-    match reading {
-        Ok(value) => {
-            let text = value.spelling();
-            put_three(row, at, 0, value.kind().word().as_bytes(), text.as_bytes())
+    draft.put_number(0);
+    draft.put_field(kind.word().as_bytes());
+    draft.put_field(text);
+}
+
+/// Code 0, and the value in its one spelling.
+impl Put for Value {
+    ghost fields = { λ value. readout_fields (found (kind_of value) (spelled (datum_of value))) };
+
+    ghost fits = { λ value. Valid (kind_of value) (datum_of value) };
+
+    fn put(&self, draft: &mut Draft) {
+        put_found(draft, self.kind(), self.spelling().as_bytes());
+    }
+}
+
+/// Code 0, and the value that was read in its one spelling.
+impl Put for Found<'_> {
+    ghost fields = { λ found. readout_fields (again_readout (found_of found)) };
+
+    fn put(&self, draft: &mut Draft) {
+        match read_value(self.kind, self.text.text.as_bytes()) {
+            Some(value) => value.put(draft),
+            None => put_found(draft, self.kind, b""),
         }
-        Err(code) => put_three(row, at, code.number(), b"Nil", b"0"),
     }
 }
 
-/// Puts the groups of a read answer.
-pub(crate) fn put_readings(row: &mut [u8], mut at: usize, readings: &[Result<Value, Code>]) -> usize
-    ensures puts { Puts row.old at (flat_map colon (flat_map readout_fields (map readout_of readings.now))) row.new result }
-    ensures reads { AllByRecursion Readable (map readout_of readings.now) }
-{
-    for reading in readings {
-        at = put_reading(row, at, *reading);
+/// What was found, or a code with Nil and 0.
+impl<V: Put> Put for Result<V, Code> {
+    ghost fields = { told_fields V.fields };
+
+    ghost fits = { λ reading. IfOk reading V.fits };
+
+    fn put(&self, draft: &mut Draft) {
+        match self {
+            Ok(found) => found.put(draft),
+            Err(code) => {
+                code.put(draft);
+                draft.put_field(b"Nil");
+                draft.put_field(b"0");
+            }
+        }
     }
-    at
 }

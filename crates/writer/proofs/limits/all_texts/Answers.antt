@@ -1,15 +1,7 @@
-use Rattle.std.proofs.Common.{is_some, refl, arith}
-use Rattle.writer.specs.Orders.{all_texts}
-use Rattle.writer.proofs.Each.{each_stops, each_more, each_all}
+use Rattle.std.proofs.Common.{is_some, rules, tests}
+use Rattle.std.proofs.lemmas.Iterator.{YieldsList-from_slice}
+use Rattle.std.proofs.lemmas.Iterator.Search.{all_from_yields_List}
 use Rattle.writer.proofs.limits.all_texts.Goals as goal
 
-pub returns-then-is_none : goal.returns-then-is_none
-returns-then-is_none c =
-    each_stops (λ x. is_some x.text) all_texts refl (λ _ _. refl) c.args.changes.now c.loop-change.change-index c.loop-change.invariant c.change-item.result (omega arith) c.change-item.is c.if-is_none.ensures
-
-pub loop-change-preserved : goal.loop-change-preserved
-loop-change-preserved c =
-    each_more (λ x. is_some x.text) all_texts refl (λ _ _. refl) c.args.changes.now c.loop-change.change-index c.loop-change.invariant c.change-item.result (omega arith) c.change-item.is c.if-is_none.ensures
-
 pub returns : goal.returns
-returns c = each_all (λ x. is_some x.text) all_texts refl (λ _ _. refl) c.args.changes.now c.loop-change.change-index c.loop-change.invariant (omega arith)
+returns c = all_from_yields_List (λ x. is_some x.text) _ _ _ c.all.ensures.ran (YieldsList-from_slice c.args.changes.now c.iter.ensures.rest) (λ x b q k. search (rules, tests))

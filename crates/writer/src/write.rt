@@ -1,0 +1,39 @@
+//! Writing a packet of any kind.
+ghost use Rattle.std.specs.Prelude.{◌≡◌, List};
+ghost use Rattle.std.specs.Iterator.{Drains, IsFinite};
+ghost use Rattle.std.specs.List.{AllByRecursion};
+ghost use Rattle.packet.specs.Messages.{Message};
+ghost use Rattle.writer.specs.Written.{message_head, Spells, Wrote};
+
+use crate::draft::Draft;
+use crate::put::Put;
+use packet::head::Head;
+use protocol::refusal::Refusal;
+
+/// Writes a packet of this head and these groups, if the order is allowed, and tells its length.
+pub(crate) fn write<G: Put + Drop, I: Iterator<Item = G> + Drop>(
+    row: &mut [u8],
+    allowed: bool,
+    head: Head,
+    groups: I,
+) -> Result<usize, Refusal>
+    requires can { I.can_next groups }
+    requires ends { IsFinite (I.remaining groups) }
+    ensures { (m : Message) → head ≡ message_head m → ((xs : List G) → Drains I.next_gives groups xs → AllByRecursion G.fits xs → Spells G.fields xs allowed m) → Wrote allowed m row.old row.new result }
+{
+    if row.len() < 512 {
+        return Err(Refusal::ShortMemory);
+    }
+    if !allowed {
+        return Err(Refusal::Limit);
+    }
+    let mut draft = Draft::new();
+    draft.put_head(head);
+    for group in groups {
+        group.put(&mut draft);
+    }
+    draft.put(b"}");
+    let packet = draft.as_bytes();
+    row[..packet.len()].copy_from_slice(packet);
+    Ok(packet.len())
+}
