@@ -1,21 +1,16 @@
-use Rattle.std.proofs.Common.{◌≡◌, ℕ, ◌+◌, cond, get_or, drop, is_some, sym, arith}
-use Rattle.std.proofs.lemmas.List.{at_drop_more, at_drop_all}
-use Rattle.std.proofs.lemmas.Bool.{cond-true, cond-false}
-use Rattle.catalogue.specs.Stations.{waiting_in, newcomer}
+use Rattle.std.proofs.Common.{◌≡◌, ℕ, ◌+◌, Bool, true, false, cond, List, is_some, refl, ◌∙◌, sym, arith, rules}
+use Rattle.std.specs.List.{count_by}
+use Rattle.std.proofs.lemmas.List.Recursion.{is_count_by}
+use Rattle.catalogue.specs.declared.partner.Partner.{Partner}
+use Rattle.catalogue.specs.Stations.{waiting_in}
 use Rattle.catalogue.proofs.partners.count_waiting.Goals as goal
-use Rattle.catalogue.proofs.partners.count_waiting.Goals.{then-is_some, else-is_some}
 
-pub loop-partner-preserved : goal.loop-partner-preserved
-loop-partner-preserved c =
-    let ps = c.args.partners.now in
-    let i = c.loop-partner.partner-index in
-    let e : waiting_in (drop i ps) ≡ cond (is_some (get_or ps i (newcomer 0)).waiting) 1 0 + waiting_in (drop (i + 1) ps) = at_drop_more waiting_in ps i (newcomer 0) c.loop-partner-test.true in
-    elim c.if-is_some.branch [
-      | then-is_some w ↦ let t : ◌≡◌ {A = ℕ} (cond (is_some (get_or ps i (newcomer 0)).waiting) 1 0) 1 = cond-true _ 1 0 (sym w.if-is_some.ensures) in (omega (arith, w.count-is), omega (arith, w.count-is))
-      | else-is_some w ↦ let t : ◌≡◌ {A = ℕ} (cond (is_some (get_or ps i (newcomer 0)).waiting) 1 0) 0 = cond-false _ 1 0 (sym w.if-is_some.ensures) in (omega (arith, w.count-is), omega (arith, w.count-is))
-    ]
+one_more : (b : Bool) (n : ℕ) → cond b 1 0 + n ≡ cond b (1 + n) n
+one_more true n = refl
+one_more false n = omega arith
+
+counted : (ps : List Partner) → waiting_in ps ≡ count_by (λ p. is_some p.waiting) ps
+counted ps = is_count_by waiting_in (λ p. is_some p.waiting) refl (λ p ps. one_more (is_some p.waiting) (waiting_in ps)) ps
 
 pub returns : goal.returns
-returns c =
-    let e : waiting_in (drop c.loop-partner.partner-index c.args.partners.now) ≡ 0 = at_drop_all waiting_in _ _ c.loop-partner-test.false in
-    omega arith
+returns c = let e : c.count.result ≡ count_by (λ p. is_some p.waiting) c.args.partners.now = search rules in e ∙ sym (counted c.args.partners.now)
