@@ -9,7 +9,7 @@ use crate::timing::{LATEST, Timing};
 impl Timing {
     /// The deadline at which an order that was opened at this time is given up, if it is polled at each deadline.
     fn last_deadline(self, time: u64) -> u64
-        requires time { time ≤ 1000000000000000 }
+        requires time { time ≤ LATEST }
         requires timely { timely self ≡ true }
         ensures { result ≡ gives_up_at self time }
     {

@@ -43,7 +43,7 @@ impl Catalogue {
         requires repeats { waiting.repeats ≡ 0 }
         ensures { self.new ≡ placed self.old k (asking_with waiting (partner self.old k)) time (count_opened self.old.counts) }
     {
-        let partner = &mut self.partners.as_mut_slice()[k];
+        let partner = &mut self.partners[k];
         partner.next += 1;
         partner.waiting = Some(waiting);
         self.clock = time;

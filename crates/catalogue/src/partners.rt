@@ -2,6 +2,7 @@
 ghost use Rattle.std.specs.Prelude.{◌≡◌, ◌<◌, position, OnOk};
 ghost use Rattle.catalogue.specs.Stations.{at_address, waiting_in};
 ghost use Rattle.catalogue.specs.Judging.{timed, known};
+ghost use Rattle.catalogue.specs.Kept.{Sound};
 
 use crate::catalogue::Catalogue;
 use crate::partner::Partner;
@@ -9,43 +10,31 @@ use crate::timing::LATEST;
 use crate::told::Counts;
 use protocol::refusal::Refusal;
 
-/// Which partner has this address.
-fn find(partners: &[Partner], address: u32) -> Option<usize>
-    ensures { result ≡ position (at_address address) partners.now }
-{
-    partners
-        .iter()
-        .position(|partner| partner.address == address)
-}
-
-/// How many of the partners have a transaction that waits.
-fn count_waiting(partners: &[Partner]) -> usize
-    ensures { result ≡ waiting_in partners.now }
-{
-    partners
-        .iter()
-        .filter(|partner| partner.waiting.is_some())
-        .count()
-}
-
 impl Catalogue {
     /// Which partner has this address.
     pub(crate) fn partner_at(&self, address: u32) -> Option<usize>
         ensures { result ≡ position (at_address address) self.now.partners }
     {
-        find(self.partners.as_slice(), address)
+        self.partners
+            .iter()
+            .position(|partner| partner.address == address)
     }
 
-    /// How many partners have a transaction that waits.
+    /// How many partners have a transaction that waits. So many are opened and not settled.
     pub fn waiting(&self) -> usize
-        ensures { result ≡ waiting_in self.now.partners }
+        ensures waiting { result ≡ waiting_in self.now.partners }
+        ensures sound { Sound self.now }
     {
-        count_waiting(self.partners.as_slice())
+        self.partners
+            .iter()
+            .filter(|partner| partner.waiting.is_some())
+            .count()
     }
 
     /// What was counted since the making.
     pub fn counts(&self) -> Counts
-        ensures { result ≡ self.now.counts }
+        ensures counts { result ≡ self.now.counts }
+        ensures sound { Sound self.now }
     {
         self.counts
     }
@@ -65,10 +54,6 @@ impl Catalogue {
         ensures answer { result ≡ known self.now k }
         ensures few { OnOk result (k < 16) }
     {
-        self.partners
-            .as_slice()
-            .get(k)
-            .copied()
-            .ok_or(Refusal::Unknown)
+        self.partners.get(k).copied().ok_or(Refusal::Unknown)
     }
 }

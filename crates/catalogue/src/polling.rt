@@ -6,7 +6,7 @@ ghost use Rattle.catalogue.specs.Promises.{tallied_polling, Others};
 
 use crate::catalogue::Catalogue;
 use crate::partner::Waiting;
-use crate::timing::Timing;
+use crate::timing::{LATEST, Timing};
 use crate::told::Poll;
 use protocol::refusal::Refusal;
 use slab_rows::place::Place;
@@ -26,7 +26,7 @@ impl Waiting {
     fn longer(self, time: u64) -> Waiting
         requires interval { self.interval ≤ 600000 }
         requires repeats { self.repeats < 20 }
-        requires time { time ≤ 1000000000000000 }
+        requires time { time ≤ LATEST }
         ensures { result ≡ longer time self }
     {
         let interval = 2 * self.interval;
@@ -48,11 +48,11 @@ impl Catalogue {
         ensures after { self.new ≡ (due self.old k self.old.clock waiting).after }
     {
         if self.timing.is_spent(waiting) {
-            self.partners.as_mut_slice()[k].waiting = None;
+            self.partners[k].waiting = None;
             self.counts.failed += 1;
             return Poll::Failed(waiting.number);
         }
-        self.partners.as_mut_slice()[k].waiting = Some(waiting.longer(self.clock));
+        self.partners[k].waiting = Some(waiting.longer(self.clock));
         self.counts.repeated += 1;
         Poll::Again(Place::Slab {
             start: 512 * k,

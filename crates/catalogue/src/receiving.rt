@@ -40,7 +40,7 @@ impl Catalogue {
         if !waiting.agrees(answer) {
             return Err(Refusal::NoMatch);
         }
-        self.partners.as_mut_slice()[k].waiting = None;
+        self.partners[k].waiting = None;
         self.counts.answered += 1;
         Ok(())
     }

@@ -15,7 +15,7 @@ impl Catalogue {
         ensures others { Others partner self.old self.new }
     {
         let waiting = self.known(partner)?.waiting.ok_or(Refusal::NoneWaits)?;
-        self.partners.as_mut_slice()[partner].waiting = None;
+        self.partners[partner].waiting = None;
         self.counts.withdrawn += 1;
         Ok(waiting.number)
     }

@@ -10,7 +10,7 @@ overflow_add-self c = let n = small (station_of c.self.inside) c.self.invariant 
 pub invariant_of-self : goal.invariant_of-self
 invariant_of-self c =
     let s = station_of c.self.inside in
-    rw c.as_mut_slice.ensures.value (sound_settled s c.args.k c.self.invariant (search rules) c.args.waiting (search rules) (count_failed s.counts) refl refl (omega arith))
+    rw c.deref_mut.ensures.value (sound_settled s c.args.k c.self.invariant (search rules) c.args.waiting (search rules) (count_failed s.counts) refl refl (omega arith))
 
 pub overflow_add-self-2 : goal.overflow_add-self-2
 overflow_add-self-2 c = let n = small (station_of c.self.inside) c.self.invariant in omega arith
@@ -18,4 +18,4 @@ overflow_add-self-2 c = let n = small (station_of c.self.inside) c.self.invarian
 pub invariant_of-self-2 : goal.invariant_of-self-2
 invariant_of-self-2 c =
     let s = station_of c.self.inside in
-    rw (c.as_mut_slice-2.ensures.value, c.longer.ensures) (sound_repeated s c.args.k c.self.invariant (search rules) c.args.waiting (search rules) (sym c.is_spent.ensures ∙ c.if-is_spent.false))
+    rw (c.deref_mut-2.ensures.value, c.longer.ensures) (sound_repeated s c.args.k c.self.invariant (search rules) c.args.waiting (search rules) (sym c.is_spent.ensures ∙ c.if-is_spent.false))

@@ -45,7 +45,7 @@ returns-then-not-agrees c =
 pub invariant_of-self : goal.invariant_of-self
 invariant_of-self c =
     let s = station_of c.self.inside in
-    rw c.as_mut_slice.ensures.value (sound_settled s c.in_ok-k.k c.self.invariant (search rules) c.in_ok-waiting.waiting (search rules) (count_answered s.counts) refl refl (omega arith))
+    rw c.deref_mut.ensures.value (sound_settled s c.in_ok-k.k c.self.invariant (search rules) c.in_ok-waiting.waiting (search rules) (count_answered s.counts) refl refl (omega arith))
 
 pub returns : goal.returns
 returns c =
@@ -60,6 +60,6 @@ returns c =
     ∙ cond-true (agrees w m) _ _ (sym c.agrees.ensures ∙ c.if-not-agrees.false) in
     record {
       answer = sym (ap (λ x. x.answer) e);
-      after = rw c.as_mut_slice.ensures.value (rewritten_is s k (freed (partner s k)) s.clock (count_answered s.counts) ∙ sym (ap (λ x. x.after) e));
+      after = rw c.deref_mut.ensures.value (rewritten_is s k (freed (partner s k)) s.clock (count_answered s.counts) ∙ sym (ap (λ x. x.after) e));
       refused = tt;
     }

@@ -11,4 +11,4 @@ overflow_add-self c = let n = small (station_of c.self.inside) c.self.invariant 
 pub invariant_of-self : goal.invariant_of-self
 invariant_of-self c =
     let s = station_of c.self.inside in
-    rw c.as_mut_slice.ensures.value (sound_settled s c.args.partner c.self.invariant (search rules) c.in_ok-waiting.waiting (search rules) (count_withdrawn s.counts) refl refl (omega arith))
+    rw c.deref_mut.ensures.value (sound_settled s c.args.partner c.self.invariant (search rules) c.in_ok-waiting.waiting (search rules) (count_withdrawn s.counts) refl refl (omega arith))
