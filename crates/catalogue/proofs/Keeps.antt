@@ -8,7 +8,8 @@ use Rattle.std.specs.List.{refill}
 use Rattle.catalogue.specs.declared.partner.Partner.{Partner}
 use Rattle.catalogue.specs.declared.partner.Waiting.{Waiting}
 use Rattle.catalogue.specs.declared.told.Counts.{Counts}
-use Rattle.catalogue.specs.Stations.{Timing, Station, timely, newcomer, freed, waiting_in}
+use Rattle.catalogue.specs.declared.timing.Timing.{Timing}
+use Rattle.catalogue.specs.Stations.{Station, timely, newcomer, freed, waiting_in}
 use Rattle.catalogue.specs.Opening.{partner, count_opened}
 use Rattle.catalogue.specs.Polling.{spent, longer, with_waiting, count_repeated}
 use Rattle.catalogue.specs.Judging.{Free, asking_with, placed}

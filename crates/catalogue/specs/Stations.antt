@@ -4,7 +4,7 @@ use Rattle.protocol.specs.declared.refusal.Refusal.{Refusal}
 use Rattle.protocol.specs.declared.refusal.Refusal.TheVariants.{Limit, Enlisted}
 use Rattle.slab_rows.specs.Searches.{first_by}
 use Rattle.catalogue.specs.declared.partner.Partner.{Partner}
-pub use Rattle.catalogue.specs.declared.timing.Timing.{Timing}
+use Rattle.catalogue.specs.declared.timing.Timing.{Timing}
 use Rattle.catalogue.specs.declared.told.Counts.{Counts}
 
 -- a catalogue apart from its slab: its timing, the latest time that it accepted, its partners in the order of enlisting,

@@ -2,7 +2,7 @@
 use Rattle.std.proofs.Common.{◌≡◌, ℕ, ◌<◌, ◌≤◌, Bool, true, false, ltb, ◌↔◌, List, [], ◌∷◌, length, is_ok, Err, Result, sym, refl, ap, ◌∙◌, subst, arith}
 use Rattle.protocol.specs.declared.refusal.Refusal.{Refusal}
 use Rattle.protocol.specs.declared.refusal.Refusal.TheVariants.{NoneWaits}
-use Rattle.catalogue.specs.Stations.{Timing}
+use Rattle.catalogue.specs.declared.timing.Timing.{Timing}
 use Rattle.catalogue.specs.Withdrawing.{Withdrawing}
 use Rattle.link.specs.Calls.{CatalogueCall, enlist, open_order, poll, withdraw, receive, discover}
 use Rattle.link.specs.Transactions.{enlisted, moves, waits, one, WithdrawalsTold}

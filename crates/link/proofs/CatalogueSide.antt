@@ -14,7 +14,8 @@ use Rattle.slab_rows.specs.Rows.{rowed, in_row}
 use Rattle.catalogue.specs.declared.partner.Partner.{Partner}
 use Rattle.catalogue.specs.declared.partner.Waiting.{Waiting}
 use Rattle.catalogue.specs.declared.told.Counts.{Counts}
-use Rattle.catalogue.specs.Stations.{Timing, new_station, newcomer, freed, partner_at, Enlisting}
+use Rattle.catalogue.specs.declared.timing.Timing.{Timing}
+use Rattle.catalogue.specs.Stations.{new_station, newcomer, freed, partner_at, Enlisting}
 use Rattle.catalogue.specs.Opening.{Opening, asking, count_opened}
 use Rattle.catalogue.specs.Polling.{Polling, longer, with_waiting, count_repeated, count_failed}
 use Rattle.catalogue.specs.Receiving.{Receiving, count_answered}
