@@ -1,6 +1,4 @@
-pub mod Listed
 pub mod Keeps
+pub mod Addresses
 pub mod Openings
-pub mod Receipts
-pub mod Promised
 pub mod Tries

@@ -9,7 +9,8 @@ use Rattle.catalogue.specs.declared.partner.Waiting.{Waiting}
 use Rattle.catalogue.specs.declared.told.Poll.{Poll}
 use Rattle.catalogue.specs.declared.told.Poll.TheVariants.{Again, Failed}
 use Rattle.catalogue.specs.declared.told.Sent.{Sent}
-use Rattle.catalogue.specs.Stations.{Timing, Station, newcomer, untimely, unknown}
+use Rattle.catalogue.specs.declared.timing.Timing.{Timing}
+use Rattle.catalogue.specs.Stations.{Station, newcomer, untimely, unknown}
 use Rattle.catalogue.specs.Opening.{partner, asking, opening}
 use Rattle.catalogue.specs.Polling.{longer, with_waiting, spent, sent_again, due, when_due, polling}
 use Rattle.catalogue.specs.Backoff.{poll_time, sends, first_silent, last_poll, deadline_in, deadline, polled_at_deadlines, PollAt, BacksOff, GivesUp}

@@ -9,7 +9,8 @@ use Rattle.catalogue.specs.declared.partner.Waiting.{Waiting}
 use Rattle.catalogue.specs.declared.told.Poll.{Poll}
 use Rattle.catalogue.specs.declared.told.Poll.TheVariants.{Again, Failed}
 use Rattle.catalogue.specs.declared.told.Sent.{Sent}
-use Rattle.catalogue.specs.Stations.{Timing, Station}
+use Rattle.catalogue.specs.declared.timing.Timing.{Timing}
+use Rattle.catalogue.specs.Stations.{Station}
 use Rattle.catalogue.specs.Opening.{partner, opening}
 use Rattle.catalogue.specs.Polling.{polling}
 

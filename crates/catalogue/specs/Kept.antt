@@ -1,9 +1,10 @@
 -- What a catalogue keeps true of itself from its making on. So every count is exact, and no time or interval grows too large.
-use Rattle.std.specs.Prelude.{◌≡◌, ℕ, ◌+◌, ◌*◌, ◌≤◌, true, List, Some, None, sum_by, Option}
+use Rattle.std.specs.Prelude.{◌≡◌, ℕ, ◌+◌, ◌*◌, ◌≤◌, true, List, length, Some, None, sum_by, Option}
 use Rattle.catalogue.specs.declared.partner.Partner.{Partner}
 use Rattle.catalogue.specs.declared.partner.Waiting.{Waiting}
 use Rattle.catalogue.specs.declared.told.Counts.{Counts}
-use Rattle.catalogue.specs.Stations.{Timing, Station, timely, waiting_in}
+use Rattle.catalogue.specs.declared.timing.Timing.{Timing}
+use Rattle.catalogue.specs.Stations.{Station, timely, waiting_in}
 use Rattle.catalogue.specs.Opening.{partner}
 
 -- how often the transaction that waits, if one does, was sent again
@@ -42,3 +43,8 @@ Counted c ps = (c.opened ≡ numbers_of ps) × (c.opened ≡ settled c + waiting
 
 abbrev pub Kept : Station → Type 0
 Kept s = Timed s × ((k : ℕ) → Fair s.timing (partner s k)) × Counted s.counts s.partners
+
+-- what is true of every catalogue: it keeps that, and has at most sixteen partners
+pub record Sound (s : Station) : Type 0 where
+  pub kept : Kept s
+  pub few : length s.partners ≤ 16

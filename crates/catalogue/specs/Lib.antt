@@ -4,7 +4,6 @@ pub mod Polling
 pub mod Receiving
 pub mod Judging
 pub mod Kept
-pub mod Held
 pub mod Views
 pub mod Withdrawing
 pub mod Promises

@@ -10,7 +10,8 @@ use Rattle.slab_rows.specs.declared.place.Place.TheVariants.{Slab}
 use Rattle.catalogue.specs.declared.partner.Partner.{Partner}
 use Rattle.catalogue.specs.declared.told.Counts.{Counts}
 use Rattle.catalogue.specs.declared.told.Sent.{Sent}
-use Rattle.catalogue.specs.Stations.{Timing, Station, newcomer, untimely, unknown}
+use Rattle.catalogue.specs.declared.timing.Timing.{Timing}
+use Rattle.catalogue.specs.Stations.{Station, newcomer, untimely, unknown}
 
 -- the number and the place of the packet or a refusal, and catalogue and slab afterwards
 pub record Opening : Type 0 where

@@ -8,7 +8,8 @@ use Rattle.catalogue.specs.declared.partner.Waiting.{Waiting}
 use Rattle.catalogue.specs.declared.told.Counts.{Counts}
 use Rattle.catalogue.specs.declared.told.Poll.{Poll}
 use Rattle.catalogue.specs.declared.told.Poll.TheVariants.{NothingDue, Again, Failed}
-use Rattle.catalogue.specs.Stations.{Timing, Station, freed, untimely, unknown}
+use Rattle.catalogue.specs.declared.timing.Timing.{Timing}
+use Rattle.catalogue.specs.Stations.{Station, freed, untimely, unknown}
 use Rattle.catalogue.specs.Opening.{partner}
 
 -- what polling tells, and the catalogue afterwards

@@ -14,6 +14,7 @@ use Rattle.catalogue.specs.Stations.{Station}
 use Rattle.catalogue.specs.Opening.{partner, count_opened}
 use Rattle.catalogue.specs.Polling.{count_repeated, count_failed}
 use Rattle.catalogue.specs.Receiving.{count_answered}
+use Rattle.catalogue.specs.Withdrawing.{count_withdrawn}
 
 -- the counts after an opening: one more was opened where it is accepted
 abbrev pub tallied_opening : Counts → Result Sent Refusal → Counts
@@ -31,6 +32,11 @@ tallied_polling c (Err reason) = c
 abbrev pub tallied_receiving : {X : Type 0} → Counts → Result X Refusal → Counts
 tallied_receiving c (Ok answer) = count_answered c
 tallied_receiving c (Err reason) = c
+
+-- the counts after withdrawing: one more was withdrawn where it is accepted
+abbrev pub tallied_withdrawing : Counts → Result ℕ Refusal → Counts
+tallied_withdrawing c (Ok number) = count_withdrawn c
+tallied_withdrawing c (Err reason) = c
 
 -- there are as many partners as before, and each but the k-th is as it was
 abbrev pub Others : ℕ → Station → Station → Type 0

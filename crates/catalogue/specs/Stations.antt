@@ -4,13 +4,8 @@ use Rattle.protocol.specs.declared.refusal.Refusal.{Refusal}
 use Rattle.protocol.specs.declared.refusal.Refusal.TheVariants.{Limit, Enlisted}
 use Rattle.slab_rows.specs.Searches.{first_by}
 use Rattle.catalogue.specs.declared.partner.Partner.{Partner}
+use Rattle.catalogue.specs.declared.timing.Timing.{Timing}
 use Rattle.catalogue.specs.declared.told.Counts.{Counts}
-
--- the first interval, the longest one, and how often a packet is sent again
-pub record Timing : Type 0 where
-  pub first : ℕ
-  pub longest : ℕ
-  pub repeats : ℕ
 
 -- a catalogue apart from its slab: its timing, the latest time that it accepted, its partners in the order of enlisting,
 -- and its counts

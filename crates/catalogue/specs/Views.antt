@@ -1,7 +1,6 @@
 -- The station that a catalogue is.
-use Rattle.catalogue.specs.declared.catalogue.Catalogue.{Catalogue}
+use Rattle.catalogue.specs.declared.catalogue.Catalogue.TheInside.{Inside}
 use Rattle.catalogue.specs.Stations.{Station}
-use Rattle.catalogue.specs.Held.{held}
 
-abbrev pub station_of : Catalogue → Station
-station_of c = held c.first c.longest c.repeats c.clock c.partners c.enlisted c.counts
+abbrev pub station_of : Inside → Station
+station_of c = record { timing = c.timing; clock = c.clock; partners = c.partners.items; counts = c.counts }

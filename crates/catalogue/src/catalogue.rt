@@ -1,23 +1,29 @@
 //! Catalogues.
-ghost use Rattle.std.specs.Prelude.{◌≡◌, ◌≤◌, length};
-ghost use Rattle.catalogue.specs.Held.{held};
-ghost use Rattle.catalogue.specs.Kept.{Kept};
-
 use crate::partner::Partner;
+use crate::timing::Timing;
 use crate::told::Counts;
+use arrayvec::ArrayVec;
+use std::marker::Model;
 
-/// A catalogue: the first interval, the longest one and the number of repeats, the latest time that it accepted, the
-/// memory for its partners, how many are enlisted, and its counts.
+/// A catalogue: how long it waits, the latest time that it accepted, its partners in the order of enlisting, and its counts.
+/// Clauses see it as a `Station`.
 #[derive(Drop)]
 pub struct Catalogue {
-    pub(crate) first: u32,
-    pub(crate) longest: u32,
-    pub(crate) repeats: u32,
+    pub(crate) timing: Timing,
     pub(crate) clock: u64,
-    pub(crate) partners: [Partner; 16],
-    pub(crate) enlisted: usize,
+    pub(crate) partners: ArrayVec<Partner, 16>,
     pub(crate) counts: Counts,
-    ghost room: { length partners ≡ 16 },
-    ghost within: { enlisted ≤ 16 },
-    ghost kept: { Kept (held first longest repeats clock partners enlisted counts) },
+}
+
+impl Model for Catalogue {
+    ghost use Rattle.catalogue.specs.Stations.{Station};
+    ghost use Rattle.catalogue.specs.Kept.{Sound};
+
+    ghost Value = { Station };
+
+    ghost use Rattle.catalogue.specs.Views.{station_of};
+
+    ghost view = { station_of };
+
+    ghost invariant = { λ c. Sound (station_of c) };
 }

@@ -13,8 +13,7 @@ pub fn discover(reply: &mut [u8]) -> Result<Place, Refusal>
     ensures answer { result ≡ (discovering reply.old).answer }
     ensures reply { reply.new ≡ (discovering reply.old).reply }
 {
-    let length = write_discovery_request(reply)?;
-    Ok(Place::Reply { length })
+    write_discovery_request(reply).map(|length| Place::Reply { length })
 }
 
 /// Reads a Discovery answer.

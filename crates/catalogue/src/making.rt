@@ -1,69 +1,64 @@
 //! Making a catalogue, and enlisting its partners.
 ghost use Rattle.std.specs.Prelude.{◌≡◌};
-ghost use Rattle.slab_rows.specs.Places.{told};
 ghost use Rattle.catalogue.specs.Stations.{timely, making, enlisting};
-ghost use Rattle.catalogue.specs.Views.{station_of};
 
 use crate::catalogue::Catalogue;
 use crate::partner::Partner;
+use crate::timing::Timing;
 use crate::told::Counts;
+use arrayvec::ArrayVec;
 use protocol::refusal::Refusal;
 
-/// Whether a catalogue can have this timing.
-fn is_timely(first: u32, longest: u32, repeats: u32) -> bool
-    ensures { result ≡ timely (record { first = first; longest = longest; repeats = repeats }) }
-{
-    1000 <= first && first <= 60000 && first <= longest && longest <= 600000 && repeats <= 20
+impl Timing {
+    /// Whether a catalogue can have this timing.
+    fn is_timely(self) -> bool
+        ensures { result ≡ timely self }
+    {
+        (1000..=60_000).contains(&self.first)
+            && (self.first..=600_000).contains(&self.longest)
+            && self.repeats <= 20
+    }
 }
 
 impl Catalogue {
     /// A catalogue with a first interval of 1,000 to 60,000 milliseconds, a longest one of that to 600,000, and 0 to 20
     /// repeats. It has no partner yet.
     pub fn new(first: u32, longest: u32, repeats: u32) -> Result<Catalogue, Refusal>
-        ensures { told station_of result ≡ making (record { first = first; longest = longest; repeats = repeats }) }
+        ensures { result ≡ making (record { first = first; longest = longest; repeats = repeats }) }
     {
-        if !is_timely(first, longest, repeats) {
-            return Err(Refusal::Limit);
-        }
-        let nobody = Partner {
-            address: 0,
-            next: 0,
-            waiting: None,
-        };
-        let counts = Counts {
-            opened: 0,
-            answered: 0,
-            failed: 0,
-            withdrawn: 0,
-            repeated: 0,
-        };
-        Ok(Catalogue {
+        let timing = Timing {
             first,
             longest,
             repeats,
+        };
+        if !timing.is_timely() {
+            return Err(Refusal::Limit);
+        }
+        Ok(Catalogue {
+            timing,
             clock: 0,
-            partners: [nobody; 16],
-            enlisted: 0,
-            counts,
+            partners: ArrayVec::new(),
+            counts: Counts::default(),
         })
     }
 
     /// Makes the station at this address a partner, and tells its number.
     pub fn enlist(&mut self, address: u32) -> Result<usize, Refusal>
-        ensures answer { result ≡ (enlisting (station_of self.old) address).answer }
-        ensures after { station_of self.new ≡ (enlisting (station_of self.old) address).after }
-        ensures counts { (station_of self.new).counts ≡ (station_of self.old).counts }
+        ensures answer { result ≡ (enlisting self.old address).answer }
+        ensures after { self.new ≡ (enlisting self.old address).after }
+        ensures counts { self.new.counts ≡ self.old.counts }
     {
-        let k = self.enlisted;
-        if self.partner_at(address) < k || k >= 16 {
+        if self.partner_at(address).is_some() {
             return Err(Refusal::Enlisted);
         }
-        self.partners[k] = Partner {
+        let k = self.partners.len();
+        let newcomer = Partner {
             address,
-            next: 0,
-            waiting: None,
+            ..Partner::default()
         };
-        self.enlisted = k + 1;
+        self.partners
+            .try_push(newcomer)
+            .map_err(|_| Refusal::Enlisted)?;
         Ok(k)
     }
 }

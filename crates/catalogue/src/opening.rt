@@ -1,34 +1,26 @@
 //! Opening transactions.
-ghost use Rattle.std.specs.Prelude.{◌≡◌, ◌*◌, ◌<◌, ◌≤◌, map, IfOk};
+ghost use Rattle.std.specs.Prelude.{◌≡◌, ◌+◌, ◌*◌, ◌≤◌, true, map, OnOk};
 ghost use Rattle.packet.specs.Messages.{read_request, write_request};
 ghost use Rattle.writer.specs.Orders.{counted, change_of, changes_allowed};
-ghost use Rattle.slab_rows.specs.declared.place.Place.TheVariants.{Slab};
-ghost use Rattle.catalogue.specs.Opening.{opening, count_opened};
-ghost use Rattle.catalogue.specs.Judging.{judged, Free, asked_by, placed};
+ghost use Rattle.catalogue.specs.Opening.{partner, opening, count_opened};
+ghost use Rattle.catalogue.specs.Judging.{judged, asking_with, Free, placed};
 ghost use Rattle.catalogue.specs.Promises.{tallied_opening, Others, Elsewhere, Back};
-ghost use Rattle.catalogue.specs.Views.{station_of};
 
 use crate::catalogue::Catalogue;
-use crate::partner::{Partner, Waiting};
+use crate::order::Order;
+use crate::partner::Waiting;
 use crate::told::Sent;
-use field::words::Command;
 use protocol::refusal::Refusal;
 use slab_rows::place::Place;
 use writer::change::Change;
-use writer::limits::{changes_allowed, indices_allowed};
-use writer::requests::{write_read_request, write_write_request};
 
 impl Catalogue {
-    /// The partner that a transaction can be opened with, or the first ground against it.
-    fn free_partner(
-        &self,
-        memory: usize,
-        k: usize,
-        time: u64,
-        allowed: bool,
-    ) -> Result<Partner, Refusal>
-        ensures answer { result ≡ judged (station_of self.now) memory k time allowed }
-        ensures free { IfOk result (Free (station_of self.now) k time) }
+    /// The number of the transaction that can be opened with partner `k`, or the first ground against opening one.
+    fn free_number(&self, memory: usize, k: usize, time: u64, allowed: bool) -> Result<u16, Refusal>
+        ensures answer { result ≡ judged self.now memory k time allowed }
+        ensures free { OnOk result (Free self.now k time) }
+        ensures allowed { OnOk result (allowed ≡ true) }
+        ensures row { OnOk result (512 * k + 512 ≤ memory) }
     {
         self.check_time(time)?;
         if memory < 8192 {
@@ -41,47 +33,56 @@ impl Catalogue {
         if partner.waiting.is_some() {
             return Err(Refusal::StillWaits);
         }
-        if partner.next >= 65536 {
-            return Err(Refusal::Exhausted);
-        }
-        Ok(partner)
+        u16::try_from(partner.next).map_err(|_| Refusal::Exhausted)
     }
 
-    /// Notes the transaction whose packet now lies in row `k`.
-    fn note(
-        &mut self,
-        k: usize,
-        partner: Partner,
-        time: u64,
-        command: Command,
-        count: u8,
-        length: usize,
-    ) -> Sent
-        requires { Free (station_of self.old) k time partner }
-        ensures answer { result ≡ record { number = partner.next; place = Slab (512 * k) length } }
-        ensures after { station_of self.new ≡ placed (station_of self.old) k (asked_by (station_of self.old).timing time command count length partner) time (count_opened (station_of self.old).counts) }
+    /// Notes the transaction that now waits at partner `k`.
+    fn note(&mut self, k: usize, time: u64, waiting: Waiting)
+        requires free { Free self.old k time }
+        requires interval { waiting.interval ≤ self.old.timing.longest }
+        requires repeats { waiting.repeats ≡ 0 }
+        ensures { self.new ≡ placed self.old k (asking_with waiting (partner self.old k)) time (count_opened self.old.counts) }
     {
-        let number = partner.next as u16;
+        let partner = &mut self.partners[k];
+        partner.next += 1;
+        partner.waiting = Some(waiting);
+        self.clock = time;
+        self.counts.opened += 1;
+    }
+
+    /// Opens a transaction that asks this. Its packet goes to the front of the partner's row.
+    fn open<O: Order>(
+        &mut self,
+        slab: &mut [u8],
+        partner: usize,
+        time: u64,
+        order: O,
+    ) -> Result<Sent, Refusal>
+        ensures answer { result ≡ (opening self.old slab.old partner time (O.allowed order) (O.content order)).answer }
+        ensures after { self.new ≡ (opening self.old slab.old partner time (O.allowed order) (O.content order)).after }
+        ensures slab { slab.new ≡ (opening self.old slab.old partner time (O.allowed order) (O.content order)).slab }
+        ensures counts { self.new.counts ≡ tallied_opening self.old.counts result }
+        ensures others { Others partner self.old self.new }
+        ensures rest { Elsewhere result slab.old slab.new }
+        ensures back { Back (O.content order) slab.new result }
+    {
+        let number = self.free_number(slab.len(), partner, time, order.is_allowed())?;
+        let start = 512 * partner;
+        let row = &mut slab[start..start + 512];
+        let length = order.write(row, number)?;
+        let interval = self.timing.first;
         let waiting = Waiting {
             number,
-            command,
-            count,
+            command: order.command(),
+            count: order.count(),
             length,
-            deadline: time + self.first as u64,
-            interval: self.first,
+            deadline: time + u64::from(interval),
+            interval,
             repeats: 0,
         };
-        let asking = Partner {
-            address: partner.address,
-            next: partner.next + 1,
-            waiting: Some(waiting),
-        };
-        let mut counts = self.counts;
-        counts.opened += 1;
-        self.put(k, asking, time, counts);
-        let start = 512 * k;
+        self.note(partner, time, waiting);
         let place = Place::Slab { start, length };
-        Sent { number, place }
+        Ok(Sent { number, place })
     }
 
     /// Opens a transaction that reads the elements at these indices. Its packet goes to the front of the partner's row.
@@ -92,21 +93,15 @@ impl Catalogue {
         time: u64,
         indices: &[u16],
     ) -> Result<Sent, Refusal>
-        ensures answer { result ≡ (opening (station_of self.old) slab.old partner time (counted indices.now) (read_request indices.now)).answer }
-        ensures after { station_of self.new ≡ (opening (station_of self.old) slab.old partner time (counted indices.now) (read_request indices.now)).after }
-        ensures slab { slab.new ≡ (opening (station_of self.old) slab.old partner time (counted indices.now) (read_request indices.now)).slab }
-        ensures counts { (station_of self.new).counts ≡ tallied_opening (station_of self.old).counts result }
-        ensures others { Others partner (station_of self.old) (station_of self.new) }
+        ensures answer { result ≡ (opening self.old slab.old partner time (counted indices.now) (read_request indices.now)).answer }
+        ensures after { self.new ≡ (opening self.old slab.old partner time (counted indices.now) (read_request indices.now)).after }
+        ensures slab { slab.new ≡ (opening self.old slab.old partner time (counted indices.now) (read_request indices.now)).slab }
+        ensures counts { self.new.counts ≡ tallied_opening self.old.counts result }
+        ensures others { Others partner self.old self.new }
         ensures rest { Elsewhere result slab.old slab.new }
         ensures back { Back (read_request indices.now) slab.new result }
     {
-        let allowed = indices_allowed(indices);
-        let free = self.free_partner(slab.len(), partner, time, allowed)?;
-        let start = 512 * partner;
-        let row = &mut slab[start..start + 512];
-        let length = write_read_request(row, free.next as u16, indices)?;
-        let count = indices.len() as u8;
-        Ok(self.note(partner, free, time, Command::Read, count, length))
+        self.open(slab, partner, time, indices)
     }
 
     /// Opens a transaction that makes these changes. Its packet goes to the front of the partner's row.
@@ -117,20 +112,14 @@ impl Catalogue {
         time: u64,
         changes: &[Change],
     ) -> Result<Sent, Refusal>
-        ensures answer { result ≡ (opening (station_of self.old) slab.old partner time (changes_allowed changes.now) (write_request (map change_of changes.now))).answer }
-        ensures after { station_of self.new ≡ (opening (station_of self.old) slab.old partner time (changes_allowed changes.now) (write_request (map change_of changes.now))).after }
-        ensures slab { slab.new ≡ (opening (station_of self.old) slab.old partner time (changes_allowed changes.now) (write_request (map change_of changes.now))).slab }
-        ensures counts { (station_of self.new).counts ≡ tallied_opening (station_of self.old).counts result }
-        ensures others { Others partner (station_of self.old) (station_of self.new) }
+        ensures answer { result ≡ (opening self.old slab.old partner time (changes_allowed changes.now) (write_request (map change_of changes.now))).answer }
+        ensures after { self.new ≡ (opening self.old slab.old partner time (changes_allowed changes.now) (write_request (map change_of changes.now))).after }
+        ensures slab { slab.new ≡ (opening self.old slab.old partner time (changes_allowed changes.now) (write_request (map change_of changes.now))).slab }
+        ensures counts { self.new.counts ≡ tallied_opening self.old.counts result }
+        ensures others { Others partner self.old self.new }
         ensures rest { Elsewhere result slab.old slab.new }
         ensures back { Back (write_request (map change_of changes.now)) slab.new result }
     {
-        let allowed = changes_allowed(changes);
-        let free = self.free_partner(slab.len(), partner, time, allowed)?;
-        let start = 512 * partner;
-        let row = &mut slab[start..start + 512];
-        let length = write_write_request(row, free.next as u16, changes)?;
-        let count = changes.len() as u8;
-        Ok(self.note(partner, free, time, Command::Write, count, length))
+        self.open(slab, partner, time, changes)
     }
 }

@@ -15,7 +15,7 @@ pub struct Waiting {
 }
 
 /// A partner: its address, the number of its next transaction, and the transaction that waits, if one does.
-#[derive(Clone, Copy)]
+#[derive(Clone, Copy, Default)]
 pub struct Partner {
     pub(crate) address: u32,
     pub(crate) next: u32,

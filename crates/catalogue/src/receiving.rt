@@ -1,11 +1,10 @@
 //! Receiving answers.
-ghost use Rattle.std.specs.Prelude.{◌≡◌, IfOk};
+ghost use Rattle.std.specs.Prelude.{◌≡◌, IfOk, OnErr};
 ghost use Rattle.packet.specs.Packets.{message_of, seen, Counted, PacketWithin};
 ghost use Rattle.slab_rows.specs.Places.{told};
 ghost use Rattle.catalogue.specs.Stations.{partner_at};
 ghost use Rattle.catalogue.specs.Receiving.{agrees, by_content, receiving};
 ghost use Rattle.catalogue.specs.Promises.{tallied_receiving, Others};
-ghost use Rattle.catalogue.specs.Views.{station_of};
 
 use crate::catalogue::Catalogue;
 use crate::partner::Waiting;
@@ -29,32 +28,29 @@ impl Catalogue {
     /// Settles the transaction that an answer belongs to, or turns a packet down.
     fn settle(&mut self, sender: u32, answer: &Packet<'_>) -> Result<(), Refusal>
         requires { Counted answer.now.body }
-        ensures answer { told (λ _. message_of answer.now) result ≡ (by_content (station_of self.old) sender (message_of answer.now) (message_of answer.now).content).answer }
-        ensures after { station_of self.new ≡ (by_content (station_of self.old) sender (message_of answer.now) (message_of answer.now).content).after }
+        ensures answer { told (λ _. message_of answer.now) result ≡ (by_content self.old sender (message_of answer.now) (message_of answer.now).content).answer }
+        ensures after { self.new ≡ (by_content self.old sender (message_of answer.now) (message_of answer.now).content).after }
+        ensures refused { OnErr result (self.new ≡ self.old) }
     {
         if let Direction::Request = answer.direction() {
             return Err(Refusal::Direction);
         }
-        let k = self.partner_at(sender);
-        let partner = self.known(k)?;
-        let Some(waiting) = partner.waiting else {
-            return Err(Refusal::NoMatch);
-        };
+        let k = self.partner_at(sender).ok_or(Refusal::Unknown)?;
+        let waiting = self.known(k)?.waiting.ok_or(Refusal::NoMatch)?;
         if !waiting.agrees(answer) {
             return Err(Refusal::NoMatch);
         }
-        let mut counts = self.counts;
-        counts.answered += 1;
-        self.put(k, partner.with(None), self.clock, counts);
+        self.partners[k].waiting = None;
+        self.counts.answered += 1;
         Ok(())
     }
 
     /// Receives a packet from this sender. An answer to the transaction that waits at the sender's is told and settles it.
     pub fn receive<'a>(&mut self, sender: u32, packet: &'a [u8]) -> Result<Packet<'a>, Refusal>
-        ensures answer { seen result ≡ (receiving (station_of self.old) sender packet.now).answer }
-        ensures after { station_of self.new ≡ (receiving (station_of self.old) sender packet.now).after }
-        ensures counts { (station_of self.new).counts ≡ tallied_receiving (station_of self.old).counts result }
-        ensures others { Others (partner_at (station_of self.old).partners sender) (station_of self.old) (station_of self.new) }
+        ensures answer { seen result ≡ (receiving self.old sender packet.now).answer }
+        ensures after { self.new ≡ (receiving self.old sender packet.now).after }
+        ensures counts { self.new.counts ≡ tallied_receiving self.old.counts result }
+        ensures others { Others (partner_at self.old.partners sender) self.old self.new }
         ensures count { IfOk result (λ p. Counted p.body) }
         ensures place { IfOk result (PacketWithin packet.now) }
     {

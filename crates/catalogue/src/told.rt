@@ -20,7 +20,7 @@ pub enum Poll {
 }
 
 /// How many transactions were opened, answered, failed and withdrawn, and how many packets were sent again.
-#[derive(Clone, Copy)]
+#[derive(Clone, Copy, Default)]
 pub struct Counts {
     pub opened: u64,
     pub answered: u64,

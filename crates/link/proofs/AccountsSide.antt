@@ -2,7 +2,7 @@
 use Rattle.std.proofs.Common.{◌≡◌, ℕ, ◌<◌, ◌≤◌, Bool, true, false, ltb, ◌↔◌, List, [], ◌∷◌, length, is_ok, Err, Result, sym, refl, ap, ◌∙◌, subst, arith}
 use Rattle.protocol.specs.declared.refusal.Refusal.{Refusal}
 use Rattle.protocol.specs.declared.refusal.Refusal.TheVariants.{NoneWaits}
-use Rattle.catalogue.specs.Stations.{Timing}
+use Rattle.catalogue.specs.declared.timing.Timing.{Timing}
 use Rattle.catalogue.specs.Withdrawing.{Withdrawing}
 use Rattle.link.specs.Calls.{CatalogueCall, enlist, open_order, poll, withdraw, receive, discover}
 use Rattle.link.specs.Transactions.{enlisted, moves, waits, one, WithdrawalsTold}
@@ -26,13 +26,13 @@ module _ (k : Catalogue) (cs : List CatalogueCall) (b : CatalogueOk k cs) where
   sixteen : (i : ℕ) {x : Withdrawing} → Withdraws k.station i x → (x.answer ≡ Err NoneWaits) ↔ ((i < length (enlisted cs)) × (waits (moves i cs) ≡ []))
   sixteen i (withdraws_nobody l) =
       let z = all_there in
-      (λ e. let y : ◌≡◌ {A = ℕ} 0 1 = cc in absurd (omega arith), λ h. absurd (omega arith))
+      (λ e. cc, λ h. absurd (omega arith))
   sixteen i (withdraws_none l e) =
       let z = all_there in
       (λ _. (omega arith, none_waits k.slab i (at k.station.partners i) (moves i cs) (b.pairs i) e), λ _. refl)
   sixteen i (withdraws_done w l e) =
       let a = (waits_for k.slab i (at k.station.partners i) (moves i cs) w (b.pairs i) e).alone in
-      (λ e. let y : ◌≡◌ {A = ℕ} 0 1 = cc in absurd (omega arith), λ h. absurd (alone i w.number a h.1))
+      (λ e. cc, λ h. absurd (alone i w.number a h.1))
 
   withdrawable : (i : ℕ) {x : Withdrawing} → Withdraws k.station i x → 0 < length (waits (moves i cs)) → is_ok x.answer ≡ true
   withdrawable i (withdraws_nobody l) h =

@@ -27,5 +27,5 @@ pub discovery_back : packet_of (bytes_of (asked 0 discovery_request)) ≡ Ok (as
 discovery_back = good_back (asked 0 discovery_request) good_discovery
 
 pub never_discovery : (o : Order) → command_of (requested o) ≡ Discovery → ⊥
-never_discovery (reads indices) e = let z : ◌≡◌ {A = ℕ} 0 1 = cc in omega arith
-never_discovery (writes changes) e = let z : ◌≡◌ {A = ℕ} 0 1 = cc in omega arith
+never_discovery (reads indices) e = cc
+never_discovery (writes changes) e = cc

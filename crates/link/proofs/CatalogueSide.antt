@@ -4,7 +4,7 @@
 use Rattle.std.proofs.Common.{◌≡◌, ℕ, zero, suc, ◌+◌, ◌<◌, ◌≤◌, Bool, true, false, cond, eqb, ltb, ◌⊎◌, List, [], ◌∷◌, ◌++◌, map, length, get_or, set, Some, None, Option, Result, sym, refl, ap, ◌∙◌, subst, inl, inr, add-one, arith}
 use lib.Seq.{map-set_same}
 use Rattle.std.proofs.lemmas.List.{length-map, length_push, get_or_push, get_or_append_left, get_or_past, get_or-set_same, get_or-set_other, map_push}
-use Rattle.std.proofs.lemmas.Bool.{eqb-true, eqb-false, eq-eqb, ne_eqb, cases_lt}
+use Rattle.std.proofs.lemmas.Bool.{eqb-true, eqb-false, eq-eqb, ne_eqb, cases_eq, cases_lt}
 use Rattle.std.proofs.lemmas.Bool.Decides.{nat_tests}
 use Rattle.protocol.specs.declared.refusal.Refusal.{Refusal}
 use Rattle.packet.specs.Messages.{Message, command_of, count_of}
@@ -14,7 +14,8 @@ use Rattle.slab_rows.specs.Rows.{rowed, in_row}
 use Rattle.catalogue.specs.declared.partner.Partner.{Partner}
 use Rattle.catalogue.specs.declared.partner.Waiting.{Waiting}
 use Rattle.catalogue.specs.declared.told.Counts.{Counts}
-use Rattle.catalogue.specs.Stations.{Timing, new_station, newcomer, freed, partner_at, Enlisting}
+use Rattle.catalogue.specs.declared.timing.Timing.{Timing}
+use Rattle.catalogue.specs.Stations.{new_station, newcomer, freed, partner_at, Enlisting}
 use Rattle.catalogue.specs.Opening.{Opening, asking, count_opened}
 use Rattle.catalogue.specs.Polling.{Polling, longer, with_waiting, count_repeated, count_failed}
 use Rattle.catalogue.specs.Receiving.{Receiving, count_answered}
@@ -197,22 +198,13 @@ at ps k = get_or ps k (newcomer 0)
 abbrev pub addresses : List Partner → List ℕ
 addresses ps = map (λ (p : Partner). p.address) ps
 
--- one partner changes, with one move more or none
-module _ (ps : List Partner) (ms : ℕ → List Move) (i : ℕ) (p : Partner) (l : i < length ps) (slab : List ℕ)
-    (others : (j : ℕ) → (j ≡ i → ⊥) → Pair slab j (at ps j) (ms j)) where
-  pairs_move : (m : Move) → Pair slab i p (m ∷ ms i) → (j : ℕ) (v : Bool) → eqb i j ≡ v → Pair slab j (at (set ps i p) j) (cond v (m ∷ ms j) (ms j))
-  pairs_move m ok j true d =
-      subst (λ (q : ℕ). Pair slab q (at (set ps i p) q) (m ∷ ms q)) (eqb-true i j d) (subst (λ (q : Partner). Pair slab i q (m ∷ ms i)) (sym (get_or-set_same ps i p (newcomer 0) l)) ok)
-  pairs_move m ok j false d =
-      let ne : j ≡ i → ⊥ = λ e. eqb-false i j d (sym e) in
-      subst (λ (q : Partner). Pair slab j q (ms j)) (sym (get_or-set_other ps i j p (newcomer 0) ne)) (others j ne)
-
-  pairs_stay : Pair slab i p (ms i) → (j : ℕ) (v : Bool) → eqb i j ≡ v → Pair slab j (at (set ps i p) j) (ms j)
-  pairs_stay ok j true d =
-      subst (λ (q : ℕ). Pair slab q (at (set ps i p) q) (ms q)) (eqb-true i j d) (subst (λ (q : Partner). Pair slab i q (ms i)) (sym (get_or-set_same ps i p (newcomer 0) l)) ok)
-  pairs_stay ok j false d =
-      let ne : j ≡ i → ⊥ = λ e. eqb-false i j d (sym e) in
-      subst (λ (q : Partner). Pair slab j q (ms j)) (sym (get_or-set_other ps i j p (newcomer 0) ne)) (others j ne)
+-- one partner changes, and its moves
+pairs_set : (ps : List Partner) (ms : ℕ → List Move) (i : ℕ) (p : Partner) → i < length ps → (slab : List ℕ) → Pair slab i p (ms i)
+    → ((j : ℕ) → (j ≡ i → ⊥) → Pair slab j (at ps j) (ms j)) → (j : ℕ) → Pair slab j (at (set ps i p) j) (ms j)
+pairs_set ps ms i p l slab ok others j = elim (cases_eq j i) [
+  | inl same ↦ subst (λ (q : ℕ). Pair slab q (at (set ps i p) q) (ms q)) (sym same) (subst (λ (q : Partner). Pair slab i q (ms i)) (sym (get_or-set_same ps i p (newcomer 0) l)) ok)
+  | inr other ↦ subst (λ (q : Partner). Pair slab j q (ms j)) (sym (get_or-set_other ps i j p (newcomer 0) other)) (others j other)
+]
 
 -- one partner more: it has done as much as nobody
 at_push : (ps : List Partner) (a j : ℕ) → (at (ps ++ (newcomer a ∷ [])) j ≡ at ps j) ⊎ ((at (ps ++ (newcomer a ∷ [])) j ≡ newcomer a) × (at ps j ≡ newcomer 0))
@@ -302,7 +294,7 @@ module _ (ps : List Partner) (slab : List ℕ) (counts : Counts) (en : List ℕ)
     where_to = still;
     distinct = b.distinct;
     few = b.few;
-    pairs = λ j. pairs_move ps ms i p l slab' others m ok j (eqb i j) refl;
+    pairs = pairs_set ps (λ j. cond (eqb i j) (m ∷ ms j) (ms j)) i p l slab' (rw (eqb_self i) ok) (λ j d. rw (ne_eqb i j (λ e. d (sym e))) (others j d));
     counted = e;
     balance = s;
   }
@@ -313,18 +305,21 @@ module _ (ps : List Partner) (slab : List ℕ) (counts : Counts) (en : List ℕ)
     where_to = still;
     distinct = b.distinct;
     few = b.few;
-    pairs = λ j. pairs_stay ps ms i p l slab (λ j _. b.pairs j) ok j (eqb i j) refl;
+    pairs = pairs_set ps ms i p l slab ok (λ j _. b.pairs j);
     counted = e;
     balance = s;
   }
 
   -- a settling: one waited, and none does
-  fewer : (w : Waiting) → (at ps i).waiting ≡ Some w → p.waiting ≡ None → (m : Move) → Pair slab i p (m ∷ ms i)
-      → waiting_of ms (length en) ≡ suc (waiting_of (λ j. cond (eqb i j) (m ∷ ms j) (ms j)) (length en))
-  fewer w e free m ok =
+  books_settled : (counts' n' : Counts) (w : Waiting) → (at ps i).waiting ≡ Some w → p.waiting ≡ None → (m : Move) → Pair slab i p (m ∷ ms i) → counts' ≡ n'
+      → n'.opened ≡ n.opened → n'.answered + n'.failed + n'.withdrawn ≡ suc (n.answered + n.failed + n.withdrawn)
+      → Books (set ps i p) slab counts' en (λ j. cond (eqb i j) (m ∷ ms j) (ms j)) n'
+  books_settled counts' n' w e free m ok same opened settled =
       let y = none_waits slab i p (m ∷ ms i) ok free in
       let z = (waits_for slab i (at ps i) (ms i) w (b.pairs i) e).alone in
-      summed_down m (ap length z ∙ sym (ap (λ (q : List ℕ). suc (length q)) y))
+      let fewer = summed_down m (ap length z ∙ sym (ap (λ (q : List ℕ). suc (length q)) y)) in
+      let was = b.balance in
+      books_moved slab counts' n' m ok (λ j _. b.pairs j) same (omega arith)
 
 -- an address that is new, at the end
 distinct_push : (xs : List ℕ) (x : ℕ) → place_of x xs ≡ length xs → ((i j : ℕ) → i < length xs → j < length xs → get_or xs i 0 ≡ get_or xs j 0 → i ≡ j)
@@ -390,8 +385,9 @@ module _ (k : Catalogue) (cs : List CatalogueCall) (b : CatalogueOk k cs) where
       let few = b.few in
       let bytes = bytes_of (asked p.next (requested o)) in
       let y = b.balance in
-      let u = summed_up ps k.slab k.station.counts (enlisted cs) (λ j. moves j cs) (tally cs) b i (asking k.station.timing t (requested o) (length bytes) p) l refl (opening p.next o) (length_push (waits (moves i cs)) p.next ∙ add-one (length (waits (moves i cs)))) in
-      books_moved ps k.slab k.station.counts (enlisted cs) (λ j. moves j cs) (tally cs) b i (asking k.station.timing t (requested o) (length bytes) p) l refl
+      let q = asking k.station.timing t (requested o) (length bytes) p in
+      let u = summed_up _ _ _ _ _ _ b i q l refl (opening p.next o) (length_push (waits (moves i cs)) p.next ∙ add-one (length (waits (moves i cs)))) in
+      books_moved _ _ _ _ _ _ b i q l refl
       (rowed k.slab i bytes) (count_opened k.station.counts) (count_opened (tally cs)) (opening p.next o)
       (open_pair k.slab i p (moves i cs) (b.pairs i) k.station.timing t o (omega arith) f e s a nw)
       (λ j d. pair_row k.slab i j bytes d (omega arith) (omega arith) f (at ps j) (moves j cs) (b.pairs j))
@@ -401,28 +397,21 @@ module _ (k : Catalogue) (cs : List CatalogueCall) (b : CatalogueOk k cs) where
   poll_ok i t (polls_not g) = b
   poll_ok i t polls_rests = b
   poll_ok i t (polls_again w l e) =
-      let ps = k.station.partners in
-      let y = b.balance in
-      books_stayed ps k.slab k.station.counts (enlisted cs) (λ j. moves j cs) (tally cs) b i (with_waiting (at ps i) (longer t w)) l refl
-      (count_repeated k.station.counts) (count_repeated (tally cs)) (again_pair k.slab i (at ps i) (moves i cs) w (b.pairs i) e t) (ap count_repeated b.counted) y
+      let p = at k.station.partners i in
+      books_stayed _ _ _ _ _ _ b i (with_waiting p (longer t w)) l refl
+      (count_repeated k.station.counts) (count_repeated (tally cs)) (again_pair k.slab i p (moves i cs) w (b.pairs i) e t) (ap count_repeated b.counted) b.balance
   poll_ok i t (polls_fails w l e) =
-      let ps = k.station.partners in
-      let y = b.balance in
-      let ok = fail_pair k.slab i (at ps i) (moves i cs) w (b.pairs i) e in
-      let u = fewer ps k.slab k.station.counts (enlisted cs) (λ j. moves j cs) (tally cs) b i (freed (at ps i)) l refl w e refl failing ok in
-      books_moved ps k.slab k.station.counts (enlisted cs) (λ j. moves j cs) (tally cs) b i (freed (at ps i)) l refl
-      k.slab (count_failed k.station.counts) (count_failed (tally cs)) failing ok (λ j _. b.pairs j) (ap count_failed b.counted) (omega arith)
+      let p = at k.station.partners i in
+      books_settled _ _ _ _ _ _ b i (freed p) l refl (count_failed k.station.counts) (count_failed (tally cs)) w e refl failing
+      (fail_pair k.slab i p (moves i cs) w (b.pairs i) e) (ap count_failed b.counted) refl (omega arith)
 
   withdraw_ok : (i : ℕ) {x : Withdrawing} → Withdraws k.station i x → CatalogueOk (record { station = x.after; slab = k.slab }) (withdraw i x.answer ∷ cs)
   withdraw_ok i (withdraws_nobody l) = b
   withdraw_ok i (withdraws_none l e) = b
   withdraw_ok i (withdraws_done w l e) =
-      let ps = k.station.partners in
-      let y = b.balance in
-      let ok = withdraw_pair k.slab i (at ps i) (moves i cs) w (b.pairs i) e in
-      let u = fewer ps k.slab k.station.counts (enlisted cs) (λ j. moves j cs) (tally cs) b i (freed (at ps i)) l refl w e refl withdrawing ok in
-      books_moved ps k.slab k.station.counts (enlisted cs) (λ j. moves j cs) (tally cs) b i (freed (at ps i)) l refl
-      k.slab (count_withdrawn k.station.counts) (count_withdrawn (tally cs)) withdrawing ok (λ j _. b.pairs j) (ap count_withdrawn b.counted) (omega arith)
+      let p = at k.station.partners i in
+      books_settled _ _ _ _ _ _ b i (freed p) l refl (count_withdrawn k.station.counts) (count_withdrawn (tally cs)) w e refl withdrawing
+      (withdraw_pair k.slab i p (moves i cs) w (b.pairs i) e) (ap count_withdrawn b.counted) refl (omega arith)
 
   -- the partner that an address is
   pub placed : (f : ℕ) → partner_at k.station.partners f ≡ place_of f (enlisted cs)
@@ -432,15 +421,12 @@ module _ (k : Catalogue) (cs : List CatalogueCall) (b : CatalogueOk k cs) where
       → CatalogueOk (record { station = x.after; slab = k.slab }) (receive f q x.answer ∷ cs)
   receive_ok f q (receives_not g) = b
   receive_ok f q (receives_ok m w l e a d) =
-      let ps = k.station.partners in
-      let i = partner_at ps f in
-      let y = b.balance in
-      let ok = answer_pair k.slab i (at ps i) (moves i cs) w (b.pairs i) e m a.number in
-      let u = fewer ps k.slab k.station.counts (enlisted cs) (λ j. moves j cs) (tally cs) b i (freed (at ps i)) l refl w e refl (answering m) ok in
+      let i = partner_at k.station.partners f in
+      let p = at k.station.partners i in
       let z = placed f in
       rw (← z)
-      (books_moved ps k.slab k.station.counts (enlisted cs) (λ j. moves j cs) (tally cs) b i (freed (at ps i)) l refl
-      k.slab (count_answered k.station.counts) (count_answered (tally cs)) (answering m) ok (λ j _. b.pairs j) (ap count_answered b.counted) (omega arith))
+      (books_settled _ _ _ _ _ _ b i (freed p) l refl (count_answered k.station.counts) (count_answered (tally cs)) w e refl (answering m)
+      (answer_pair k.slab i p (moves i cs) w (b.pairs i) e m a.number) (ap count_answered b.counted) refl (omega arith))
 
 -- each call was answered as the catalogue answers
 abbrev pub CatalogueRun : Catalogue → List CatalogueCall → Type 0

@@ -64,8 +64,8 @@ element_numbers (Some e) = kind_number e.kind ∷ bit e.fixed ∷ datum_numbers 
 
 element_same : (o p : Option Element) → element_numbers o ≡ element_numbers p → o ≡ p
 element_same None None h = refl
-element_same None (Some f) h = let z : ◌≡◌ {A = ℕ} 0 1 = cc in absurd (omega arith)
-element_same (Some e) None h = let z : ◌≡◌ {A = ℕ} 0 1 = cc in absurd (omega arith)
+element_same None (Some f) h = cc
+element_same (Some e) None h = cc
 element_same (Some e) (Some f) h =
     let k = kind_same e.kind f.kind (cc) in
     let b : bit e.fixed ≡ bit f.fixed = cc in
@@ -89,7 +89,7 @@ named j [] = false
 named j (w ∷ ws) = eqb j w.0 || named j ws
 
 same_named : (f g : ℕ → Option Element) (ws : List (ℕ × List ℕ)) (j : ℕ) → same_on f g ws ≡ true → named j ws ≡ true → f j ≡ g j
-same_named f g [] j h n = let z : ◌≡◌ {A = ℕ} 0 1 = cc in absurd (omega arith)
+same_named f g [] j h n = cc
 same_named f g (w ∷ ws) j h n =
     let p = and_parts (bytes_eq (element_numbers (f w.0)) (element_numbers (g w.0))) (same_on f g ws) h in
     go (same_named f g ws j p.1) p.0 (eqb j w.0) refl n

@@ -91,6 +91,10 @@ module _ (e : Event) (h : List Event) where
 one_message : {r : Result Message Refusal} {a b : Message} → r ≡ Ok a → r ≡ Ok b → a ≡ b
 one_message p q = cc
 
+-- a request that was opened reads so
+opened_back : (h : List Event) (s b n : ℕ) (request : Content) → OpenedFor h s b n request → packet_of (bytes_of (asked n request)) ≡ Ok (asked n request)
+opened_back h s b n request a = rw a.same_request (asked_back a.order n a.allows a.narrow a.small)
+
 -- an answer to what is asked is no request, and has its command
 replies_not : (c : Contents) (o : Order) → transacts (replied c (requested o)) ≡ false
 replies_not c (reads indices) = refl
@@ -104,14 +108,13 @@ asks_request (reads indices) = refl
 asks_request (writes changes) = refl
 
 not_answer : D.Request ≡ D.Answer → ⊥
-not_answer e = let z : ◌≡◌ {A = ℕ} 0 1 = cc in omega arith
+not_answer e = cc
 
 -- a packet that reads as a read or write request was opened
 pub request_of : (h : List Event) → CarriedAll h → (f to : ℕ) (p : List ℕ) → Kind h f to p → (m : Message) → packet_of p ≡ Ok m → transacts m.content ≡ true
     → OpenedFor h f to m.number m.content
 request_of h all f to p (request_sent n request a z) m r t =
-    let back = asked_back a.order n a.allows a.narrow a.small in
-    let e : asked n request ≡ m = one_message (ap packet_of z ∙ ap (λ (q : Content). packet_of (bytes_of (asked n q))) a.same_request ∙ back ∙ ap (λ (q : Content). Ok (asked n q)) (sym a.same_request)) r in
+    let e : asked n request ≡ m = one_message (ap packet_of z ∙ opened_back h f to n request a) r in
     subst (λ (y : Message). OpenedFor h f to y.number y.content) e a
 request_of h all f to p (discovery_sent z) m r t =
     let e : asked 0 discovery_request ≡ m = one_message (ap packet_of z ∙ discovery_back) r in
@@ -129,7 +132,7 @@ request_of h all f to p (shown_sent c n d z) m r t =
 module _ (k : Catalogue) (cs : List CatalogueCall) (b : CatalogueOk k cs) (i t : ℕ) where
   from_open : (o : Order) (n : ℕ) (q : List ℕ) → Narrow o → {x : Opening} → Opens k.station k.slab i t (allowed o) (requested o) x → opened_with x.answer x.slab ≡ opens n q
       → (allowed o ≡ true) × (n < 65536) × (q ≡ bytes_of (asked n (requested o)))
-  from_open o n q nw (opens_not g) e = let z : ◌≡◌ {A = ℕ} 0 1 = cc in absurd (omega arith)
+  from_open o n q nw (opens_not g) e = cc
   from_open o n q nw (opens_new f l a ew s) e =
       let next = (at k.station.partners i).next in
       let bytes = bytes_of (asked next (requested o)) in
@@ -147,9 +150,9 @@ module _ (k : Catalogue) (cs : List CatalogueCall) (b : CatalogueOk k cs) (i t :
 
   from_poll : (q : List ℕ) {x : Polling} → Polls k.station i t x → polled_with x.answer k.slab ≡ again q
       → (w : Waiting) × (y : WaitsFor k.slab i w (moves i cs)) × (q ≡ bytes_of (asked w.number (requested y.order)))
-  from_poll q (polls_not g) e = let z : ◌≡◌ {A = ℕ} 0 1 = cc in absurd (omega arith)
-  from_poll q polls_rests e = let z : ◌≡◌ {A = ℕ} 0 1 = cc in absurd (omega arith)
-  from_poll q (polls_fails w l ew) e = let z : ◌≡◌ {A = ℕ} 0 1 = cc in absurd (omega arith)
+  from_poll q (polls_not g) e = cc
+  from_poll q polls_rests e = cc
+  from_poll q (polls_fails w l ew) e = cc
   from_poll q (polls_again w l ew) e =
       let y = waits_for k.slab i (at k.station.partners i) (moves i cs) w (b.pairs i) ew in
       let m = as_many _ _ _ _ _ _ b in
@@ -189,7 +192,7 @@ module _ (S : Start) (h : List Event) (hp : Happens S h) (sent : SentAll h) (all
   module _ (b f : ℕ) (p : List ℕ) (arrived : Sent h f b p) (e : Event) where
     reply_kind : {r : Result Message Refusal} {a : Result (List ℕ) Refusal} {l : List Carrying} (q : List ℕ) → Outcome (carryings f (box_calls b h)) r a l → a ≡ Ok q
         → ((x : Carrying) → Mem x l → Mem x (carryings f (box_calls b (e ∷ h)))) → Kind (e ∷ h) b f q
-    reply_kind q (turned reason) ea there = let z : ◌≡◌ {A = ℕ} 0 1 = cc in absurd (omega arith)
+    reply_kind q (turned reason) ea there = cc
     reply_kind q (shown {m = m} c ok d bytes back) ea there =
         let z : bytes ≡ q = cc in
         shown_sent c m d (subst (λ (y : List ℕ). packet_of y ≡ Ok (reply_to c m)) z back)
@@ -263,7 +266,7 @@ module _ (S : Start) (h : List Event) (hp : Happens S h) (sent : SentAll h) (all
   -- what receiving accepted
   accepted : (c f : ℕ) (m : Message) {r : Result Message Refusal} {x : Receiving} → Receives (catalogue_now S h c).station f r x → x.answer ≡ Ok m
       → (r ≡ Ok m) × (direction_of m.content ≡ D.Answer) × (command_of m.content ≡ Discovery → ⊥) × (place_of f (enlisted (catalogue_calls c h)) < length (enlisted (catalogue_calls c h)))
-  accepted c f m (receives_not g) e = let z : ◌≡◌ {A = ℕ} 0 1 = cc in absurd (omega arith)
+  accepted c f m (receives_not g) e = cc
   accepted c f m (receives_ok n w l ew a d) e =
       let k = catalogue_now S h c in
       let i = partner_at k.station.partners f in
@@ -281,9 +284,8 @@ module _ (S : Start) (h : List Event) (hp : Happens S h) (sent : SentAll h) (all
   from_box : (c f : ℕ) (m : Message) (p : List ℕ) → packet_of p ≡ Ok m → direction_of m.content ≡ D.Answer → (command_of m.content ≡ Discovery → ⊥) → Kind h f c p
       → (x : Carrying) × Mem x (carryings c (box_calls f h)) × (x.number ≡ m.number) × (packet_of x.reply ≡ Ok m)
   from_box c f m p r d ne (request_sent n request a z) =
-      let back = asked_back a.order n a.allows a.narrow a.small in
-      let e : asked n (requested a.order) ≡ m = one_message (ap packet_of z ∙ ap (λ (q : Content). packet_of (bytes_of (asked n q))) a.same_request ∙ back) r in
-      absurd (not_answer (sym (asks_request a.order) ∙ ap (λ (q : Message). direction_of q.content) e ∙ d))
+      let e : asked n request ≡ m = one_message (ap packet_of z ∙ opened_back h f c n request a) r in
+      absurd (not_answer (sym (asks_request a.order) ∙ ap direction_of (sym a.same_request) ∙ ap (λ (q : Message). direction_of q.content) e ∙ d))
   from_box c f m p r d ne (discovery_sent z) =
       let e : asked 0 discovery_request ≡ m = one_message (ap packet_of z ∙ discovery_back) r in
       absurd (not_answer (ap (λ (q : Message). direction_of q.content) e ∙ d))

@@ -18,8 +18,7 @@ first_bounded i h = rw (other 100 refl, other 101 refl, other 102 refl)
     other : (k : ℕ) → inside first_contents k ≡ true → eqb i k ≡ false
     other k t = ne_eqb i k (λ e.
         let w : true ≡ false = sym t ∙ ap (inside first_contents) (sym e) ∙ h in
-        let z : ◌≡◌ {A = ℕ} 0 1 = cc in
-        omega arith)
+        cc)
 
 first_valid : (i : ℕ) → ValidIn (first_contents.element i)
 unfolding chars encode digits

@@ -8,7 +8,8 @@ use Rattle.store.specs.Contents.{Contents, Sound}
 use Rattle.store.specs.Owner.{owner_write_of}
 use Rattle.mount_box.specs.Senders.{blank}
 use Rattle.mount_box.specs.Handling.{Box, handled}
-use Rattle.catalogue.specs.Stations.{Timing, Station, new_station, enlisting}
+use Rattle.catalogue.specs.declared.timing.Timing.{Timing}
+use Rattle.catalogue.specs.Stations.{Station, new_station, enlisting}
 use Rattle.catalogue.specs.Opening.{opening}
 use Rattle.catalogue.specs.Polling.{polling}
 use Rattle.catalogue.specs.Receiving.{receiving}

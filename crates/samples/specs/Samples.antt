@@ -13,7 +13,8 @@ use Rattle.mount_box.specs.Handling.{Box, handled}
 use Rattle.catalogue.specs.declared.partner.Waiting.{Waiting}
 use Rattle.catalogue.specs.declared.told.Poll.{Poll}
 use Rattle.catalogue.specs.declared.told.Poll.TheVariants.{NothingDue, Again, Failed}
-use Rattle.catalogue.specs.Stations.{Timing, Station, new_station, enlisting}
+use Rattle.catalogue.specs.declared.timing.Timing.{Timing}
+use Rattle.catalogue.specs.Stations.{Station, new_station, enlisting}
 use Rattle.catalogue.specs.Opening.{partner, opening}
 use Rattle.catalogue.specs.Polling.{polling}
 

@@ -1,24 +1,65 @@
-use Rattle.std.proofs.Common.{sym, refl, ◌∙◌, subst, arith}
-use Rattle.catalogue.specs.Receiving.{count_answered}
-use Rattle.catalogue.specs.Judging.{placed}
-use Rattle.catalogue.specs.Kept.{Kept}
+use Rattle.std.proofs.Common.{◌≡◌, ◌<◌, length, Some, None, Err, sym, refl, ap, ◌∙◌, subst, arith, rules}
+use Rattle.std.proofs.lemmas.Bool.{cond-true, cond-false}
+use Rattle.std.specs.List.{position}
+use Rattle.protocol.specs.declared.refusal.Refusal.TheVariants.{Unknown, NoMatch}
+use Rattle.packet.specs.Packets.{message_of}
+use Rattle.catalogue.specs.Stations.{freed, at_address}
+use Rattle.catalogue.specs.Opening.{partner}
+use Rattle.catalogue.specs.Receiving.{agrees, by_content, count_answered}
 use Rattle.catalogue.specs.Views.{station_of}
-use Rattle.catalogue.proofs.Listed.{listed}
-use Rattle.catalogue.proofs.Keeps.{small, kept_settled}
-use Rattle.catalogue.proofs.Receipts.{known_found}
+use Rattle.catalogue.proofs.Addresses.{from_nobody, from_found}
+use Rattle.catalogue.proofs.Keeps.{small, rewritten_is, sound_settled}
 use Rattle.catalogue.proofs.catalogue.Catalogue.settle.Goals as goal
 
-pub overflow_add-counts : goal.overflow_add-counts
-overflow_add-counts c =
-    let s = c.args.self.now in
-    let n = small (station_of s) s.kept (omega (arith, listed s)) in
-    omega arith
+pub overflow_add-self : goal.overflow_add-self
+overflow_add-self c = let n = small (station_of c.self.inside) c.self.invariant in omega arith
 
-pub put-requires : goal.put-requires
-put-requires c =
-    let s = station_of c.args.self.now in
-    let p = c.in_ok-partner.partner in
-    let k = c.partner_at-k.result in
-    let f = known_found s k s.clock p c.args.self.now.kept.0.1 (sym c.known.ensures ∙ c.in_ok-partner.was) in
-    let t = kept_settled s k s.clock p c.args.self.now.kept f c.in-Some.waiting c.in-Some.is (count_answered s.counts) refl refl (omega arith) in
-    (f.known, subst (λ q. Kept (placed s k q s.clock (count_answered s.counts))) (sym c.with.ensures) t)
+pub returns-in_err-k : goal.returns-in_err-k
+returns-in_err-k c =
+    let s = c.args.self.now in
+    let m = message_of c.args.answer.now in
+    let n : None ≡ position (at_address c.args.sender) s.partners = search rules in
+    let e = from_nobody s c.args.sender m m.content (λ d. c.in_default.not-Request (c.direction.ensures ∙ d)) n in
+    record { answer = search rules; after = sym (ap (λ x. x.after) e); refused = search rules }
+
+pub returns-in_err-waiting : goal.returns-in_err-waiting
+returns-in_err-waiting c =
+    let s = c.args.self.now in
+    let m = message_of c.args.answer.now in
+    let n : Some c.in_ok-k.k ≡ position (at_address c.args.sender) s.partners = search rules in
+    let w : (partner s c.in_ok-k.k).waiting ≡ None = search rules in
+    let e = from_found s c.args.sender m m.content (λ d. c.in_default.not-Request (c.direction.ensures ∙ d)) c.in_ok-k.k n None w in
+    record { answer = search rules; after = sym (ap (λ x. x.after) e); refused = search rules }
+
+pub returns-then-not-agrees : goal.returns-then-not-agrees
+returns-then-not-agrees c =
+    let s = c.args.self.now in
+    let m = message_of c.args.answer.now in
+    let n : Some c.in_ok-k.k ≡ position (at_address c.args.sender) s.partners = search rules in
+    let w : (partner s c.in_ok-k.k).waiting ≡ Some c.in_ok-waiting.waiting = search rules in
+    let e =
+    from_found s c.args.sender m m.content (λ d. c.in_default.not-Request (c.direction.ensures ∙ d)) c.in_ok-k.k n (Some c.in_ok-waiting.waiting) w
+    ∙ cond-false (agrees c.in_ok-waiting.waiting m) _ _ (sym c.agrees.ensures ∙ c.if-not-agrees.true) in
+    record { answer = sym (ap (λ x. x.answer) e); after = sym (ap (λ x. x.after) e); refused = refl }
+
+pub invariant_of-self : goal.invariant_of-self
+invariant_of-self c =
+    let s = station_of c.self.inside in
+    rw c.deref_mut.ensures.value (sound_settled s c.in_ok-k.k c.self.invariant (search rules) c.in_ok-waiting.waiting (search rules) (count_answered s.counts) refl refl (omega arith))
+
+pub returns : goal.returns
+returns c =
+    let s = station_of c.self.inside in
+    let k = c.in_ok-k.k in
+    let w = c.in_ok-waiting.waiting in
+    let m = message_of c.args.answer.now in
+    let n : Some k ≡ position (at_address c.args.sender) s.partners = search rules in
+    let waits : (partner s k).waiting ≡ Some w = search rules in
+    let e =
+    ap (λ t. by_content t c.args.sender m m.content) (sym c.self.view_is) ∙ from_found s c.args.sender m m.content (λ d. c.in_default.not-Request (c.direction.ensures ∙ d)) k n (Some w) waits
+    ∙ cond-true (agrees w m) _ _ (sym c.agrees.ensures ∙ c.if-not-agrees.false) in
+    record {
+      answer = sym (ap (λ x. x.answer) e);
+      after = rw c.deref_mut.ensures.value (rewritten_is s k (freed (partner s k)) s.clock (count_answered s.counts) ∙ sym (ap (λ x. x.after) e));
+      refused = tt;
+    }

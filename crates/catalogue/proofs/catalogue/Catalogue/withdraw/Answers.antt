@@ -1,24 +1,14 @@
-use Rattle.std.proofs.Common.{sym, refl, ◌∙◌, subst, arith}
-use Rattle.catalogue.specs.Withdrawing.{count_withdrawn}
-use Rattle.catalogue.specs.Judging.{placed}
-use Rattle.catalogue.specs.Kept.{Kept}
+use Rattle.std.proofs.Common.{◌≡◌, ◌<◌, length, Some, refl, arith, rules}
+use Rattle.catalogue.specs.Opening.{partner}
 use Rattle.catalogue.specs.Views.{station_of}
-use Rattle.catalogue.proofs.Listed.{listed}
-use Rattle.catalogue.proofs.Keeps.{small, kept_settled}
-use Rattle.catalogue.proofs.Receipts.{known_found}
+use Rattle.catalogue.specs.Withdrawing.{count_withdrawn}
+use Rattle.catalogue.proofs.Keeps.{small, sound_settled}
 use Rattle.catalogue.proofs.catalogue.Catalogue.withdraw.Goals as goal
 
-pub overflow_add-counts : goal.overflow_add-counts
-overflow_add-counts c =
-    let s = c.args.self.now in
-    let n = small (station_of s) s.kept (omega (arith, listed s)) in
-    omega arith
+pub overflow_add-self : goal.overflow_add-self
+overflow_add-self c = let n = small (station_of c.self.inside) c.self.invariant in omega arith
 
-pub put-requires : goal.put-requires
-put-requires c =
-    let s = station_of c.args.self.now in
-    let p = c.in_ok-asking.asking in
-    let k = c.args.partner in
-    let f = known_found s k s.clock p c.args.self.now.kept.0.1 (sym c.known.ensures ∙ c.in_ok-asking.was) in
-    let t = kept_settled s k s.clock p c.args.self.now.kept f c.in-Some.waiting c.in-Some.is (count_withdrawn s.counts) refl refl (omega arith) in
-    (f.known, subst (λ q. Kept (placed s k q s.clock (count_withdrawn s.counts))) (sym c.with.ensures) t)
+pub invariant_of-self : goal.invariant_of-self
+invariant_of-self c =
+    let s = station_of c.self.inside in
+    rw c.deref_mut.ensures.value (sound_settled s c.args.partner c.self.invariant (search rules) c.in_ok-waiting.waiting (search rules) (count_withdrawn s.counts) refl refl (omega arith))
