@@ -15,7 +15,7 @@ use Rattle.slab_rows.specs.declared.place.Place.{Place}
 use Rattle.slab_rows.specs.declared.place.Place.TheVariants.{Slab, Reply}
 use Rattle.store.specs.Contents.{Contents, Sound}
 use Rattle.store.specs.Owner.{write_text_of}
-use Rattle.mount_box.specs.Senders.{blank, noted, is_of, repeated, due, standing}
+use Rattle.mount_box.specs.Senders.{blank, noted, is_of, length_of, repeated, due, standing}
 use Rattle.mount_box.specs.Carrying.{coded, shown, write_codes, after_writes, replied, left_by}
 use Rattle.mount_box.specs.Answers.{Orders}
 use Rattle.mount_box.specs.Handling.{Box, Handling, reply_to, discovered, kept, carried, by_standing, by_content, short, handled}
@@ -109,7 +109,7 @@ module _ (b : Box) (sender : ℕ) (packet : List ℕ) (sound : Sound b.contents)
       let long : short after ≡ false = ap (λ l. ltb l 8192 || ltb (length b.reply) 512) (length_put b.slab (reply_bytes b w) (512 * k) (f.in_row k in')) ∙ s in
       let at : get_or after.records k blank ≡ noted sender w.number len = get_or-set_same b.records k (noted sender w.number len) blank (omega arith) in
       repeat_kept after sender k q n long r u (ap (standing after.records sender) number ∙ noted_again b.records sender w.number sixteen k len d)
-      ∙ (λ i. record { answer = Ok (Slab (512 * k) (at i).length); after = after })
+      ∙ (λ i. record { answer = Ok (Slab (512 * k) (length_of (at i))); after = after })
 
   pub others : (h : Handling) → Handles b sender packet h → Others b sender h
   others h (stopped reason) = refl

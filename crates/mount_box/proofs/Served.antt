@@ -3,7 +3,7 @@
 --     served_size    a reply has at most 485 bytes
 --     due_served     a request that was due
 --     found_out      Discovery
-use Rattle.std.proofs.Common.{◌≡◌, ℕ, ◌+◌, ◌-◌, ◌*◌, ◌<◌, ◌≤◌, false, cond, List, ◌++◌, length, take, drop, set, Ok, Result, sym, refl, ap, ◌∙◌, subst, zero-add, arith}
+use Rattle.std.proofs.Common.{◌≡◌, ℕ, ◌+◌, ◌-◌, ◌*◌, ◌<◌, ◌≤◌, false, cond, List, ◌++◌, length, take, drop, set, Ok, Option, Result, sym, refl, ap, ◌∙◌, subst, zero-add, arith}
 use borrow.Rule.Slice.PartMut.{put_mid}
 use Rattle.protocol.specs.Rows.{put_at}
 use Rattle.protocol.specs.declared.refusal.Refusal.{Refusal}
@@ -62,7 +62,7 @@ row_served c m k n slab row ok p o h room a =
     (same, part_written (512 * k) (512 * k + 512 - 512 * k) slab (bytes_of (reply_to c m)) row (omega arith) (omega arith) w.row)
 
 -- what is due is carried out
-pub due_served : (b : Box) (sender k n : ℕ) (m : Message) (s : Standing) (r : SenderRecord) (row : List ℕ) (left : Contents) → Sound b.contents → Received m → Orders m.content → 8192 ≤ length b.slab
+pub due_served : (b : Box) (sender k n : ℕ) (m : Message) (s : Standing) (r : Option SenderRecord) (row : List ℕ) (left : Contents) → Sound b.contents → Received m → Orders m.content → 8192 ≤ length b.slab
     → record_of (standing_of s) < 16 → Ok (standing_of s) ≡ standing b.records sender m.number → s ≡ Due k
     → Carries b.contents m (Ok n) (take (512 * k + 512 - 512 * k) (drop (512 * k) b.slab)) row → r ≡ noted sender m.number n → left ≡ left_by b.contents m.content
     → outcome (Ok (Slab (512 * k) n)) (record { records = set b.records k r; slab = put_mid (512 * k) (512 * k + 512 - 512 * k) b.slab row; reply = b.reply; contents = left }) ≡ by_standing b sender m (standing b.records sender m.number)

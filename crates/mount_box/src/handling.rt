@@ -9,6 +9,7 @@ ghost use Rattle.mount_box.specs.Views.{box_of, outcome};
 
 use crate::carrying::carry_out;
 use crate::mount::MountBox;
+use crate::senders::SenderRecord;
 use crate::standing::Standing;
 use packet::packet::{Body, Packet, read_packet};
 use protocol::refusal::Refusal;
@@ -25,19 +26,18 @@ impl<S: Store> MountBox<S> {
         ensures sixteen { length self.old.senders.records ≡ 16 }
     {
         match self.senders.standing(sender, request.number)? {
-            Standing::Repeated(k) => {
-                let length = self.senders.records[k].length as usize;
-                Ok(Place::Slab {
-                    start: 512 * k,
-                    length,
-                })
-            }
-            Standing::Due(k) => {
-                let start = 512 * k;
+            Standing::Repeated { row, length } => Ok(Place::Slab {
+                start: 512 * row,
+                length,
+            }),
+            Standing::Due { row } => {
+                let start = 512 * row;
                 let length = carry_out(&mut self.store, &mut slab[start..start + 512], request)?;
-                self.senders
-                    .record_mut(k)
-                    .note(sender, request.number, length as u16);
+                *self.senders.record_mut(row) = Some(SenderRecord {
+                    address: sender,
+                    newest: request.number,
+                    length,
+                });
                 Ok(Place::Slab { start, length })
             }
         }
