@@ -58,11 +58,8 @@ impl SenderTable {
         ensures sixteen { length self.now.records ≡ 16 }
     {
         match find(&self.records, sender) {
-            Some((row, record)) => match number.cmp(&record.newest) {
-                Ordering::Equal => Ok(Standing::Repeated {
-                    row,
-                    length: record.length,
-                }),
+            Some((row, SenderRecord { newest, length, .. })) => match number.cmp(&newest) {
+                Ordering::Equal => Ok(Standing::Repeated { row, length }),
                 Ordering::Less => Err(Refusal::OldNumber),
                 Ordering::Greater => Ok(Standing::Due { row }),
             },

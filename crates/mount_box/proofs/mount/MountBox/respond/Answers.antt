@@ -11,6 +11,6 @@ returns-in_ok-length-in-DiscoveryRequest g c =
     let told = c.in_ok-length-in-DiscoveryRequest.ensures in
     let d = ap content_of c.in-DiscoveryRequest.is in
     record {
-      responded = found_out b c.args.sender (message_of c.args.request) c.in_ok-length-in-DiscoveryRequest.length c.carry_out.new.row (g.S.Store.meaning c.carry_out.new.store) d told.answer told.after;
+      responded = found_out b c.args.sender (message_of c.args.request) c.in_ok-length-in-DiscoveryRequest.length c.carry_out.new.row (g.S.Store.meaning c.carry_out.new.store) c.requires.reply d told.answer told.after;
       sixteen = λ o. absurd (subst Orders d o);
     }
