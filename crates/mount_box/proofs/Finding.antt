@@ -56,11 +56,11 @@ module _ (records : List (Option SenderRecord)) (sender number : ℕ) where
 
   module _ (all : length records ≡ 16) where
     -- of a known sender its newest number decides
-    pub stands_known : (k : ℕ) (r : SenderRecord) → Some k ≡ position (is_of sender) records → get_or records k blank ≡ Some r → by_number k r.newest number ≡ standing records sender number
-    stands_known k r e g =
+    pub stands_known : (k newest : ℕ) → Some k ≡ position (is_of sender) records → newest_of (get_or records k blank) ≡ newest → by_number k newest number ≡ standing records sender number
+    stands_known k newest e g =
         let f = first_some (is_of sender) records k e in
         let t = lt-ltb mine 16 (omega arith) in
-        sym (cond-true _ _ _ t ∙ ap₂ (λ n q. by_number n q number) (sym f.0) (ap (λ n. newest_of (get_or records n blank)) (sym f.0) ∙ ap newest_of g))
+        sym (cond-true _ _ _ t ∙ ap₂ (λ n q. by_number n q number) (sym f.0) (ap (λ n. newest_of (get_or records n blank)) (sym f.0) ∙ g))
 
     -- a new one gets the lowest empty record
     pub stands_new : None ≡ position (is_of sender) records → ok_or (option_map due (position is_empty records)) Unknown ≡ standing records sender number

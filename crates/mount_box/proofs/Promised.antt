@@ -47,7 +47,7 @@ not_due : (records : List _) (sender : ℕ) (m n : Message) (j k : ℕ) → m �
 not_due records sender m n j k s p q = let e : standing records sender m.number ≡ standing records sender n.number = ap (λ x. standing records sender x.number) s in let z : ◌≡◌ {A = ℕ} 0 1 = cc in omega arith
 
 -- by its standing goes a read or a write
-orders_by : (b : Box) (sender : ℕ) (m : Message) (content : Content) → Orders content → by_content b sender m content ≡ by_standing b sender m (standing b.records sender m.number)
+pub orders_by : (b : Box) (sender : ℕ) (m : Message) (content : Content) → Orders content → by_content b sender m content ≡ by_standing b sender m (standing b.records sender m.number)
 orders_by b sender m (read_request is) o = refl
 orders_by b sender m (write_request ws) o = refl
 orders_by b sender m discovery_request o = absurd o

@@ -7,17 +7,17 @@ use Rattle.mount_box.proofs.table.SenderTable.standing.Goals as goal
 pub returns-in-Equal-clause-standing : goal.returns-in-Equal-clause-standing
 returns-in-Equal-clause-standing c =
     let all : length c.args.self.now.records ≡ 16 = search rules in
-    let s = stands_known c.args.self.now.records c.args.sender c.args.number all c.in-Some.row c.in-Some.record (search rules) (search rules) in grind (arith, nat_tests)
+    let s = stands_known c.args.self.now.records c.args.sender c.args.number all c.in-Some.row c.in-Some.newest (search rules) (search rules) in grind (arith, nat_tests)
 
 pub returns-in-Less-clause-standing : goal.returns-in-Less-clause-standing
 returns-in-Less-clause-standing c =
     let all : length c.args.self.now.records ≡ 16 = search rules in
-    let s = stands_known c.args.self.now.records c.args.sender c.args.number all c.in-Some.row c.in-Some.record (search rules) (search rules) in grind (arith, nat_tests)
+    let s = stands_known c.args.self.now.records c.args.sender c.args.number all c.in-Some.row c.in-Some.newest (search rules) (search rules) in grind (arith, nat_tests)
 
 pub returns-in-Greater-clause-standing : goal.returns-in-Greater-clause-standing
 returns-in-Greater-clause-standing c =
     let all : length c.args.self.now.records ≡ 16 = search rules in
-    let s = stands_known c.args.self.now.records c.args.sender c.args.number all c.in-Some.row c.in-Some.record (search rules) (search rules) in grind (arith, nat_tests)
+    let s = stands_known c.args.self.now.records c.args.sender c.args.number all c.in-Some.row c.in-Some.newest (search rules) (search rules) in grind (arith, nat_tests)
 
 pub returns-in-None-clause-standing : goal.returns-in-None-clause-standing
 returns-in-None-clause-standing c =
