@@ -18,10 +18,10 @@ fn find(records: &[Option<SenderRecord>], sender: u32) -> Option<(usize, SenderR
     ensures place { option_map (λ found. found.0) result ≡ position (is_of sender) records.now }
     ensures record { IfSome result (λ found. slice_index_or records.now found.0 blank ≡ Some found.1) }
 {
-    records
-        .iter()
-        .enumerate()
-        .find_map(|(k, record)| record.filter(|record| record.address == sender).map(|record| (k, record)))
+    records.iter().enumerate().find_map(|(row, record)| {
+        let record = record.filter(|record| record.address == sender);
+        record.map(|record| (row, record))
+    })
 }
 
 /// The place of the first empty record.

@@ -9,5 +9,5 @@ returns-in_ok-length-in-Due-clause-served g c =
     let at = c.in_ok-row.ensures in
     let done = c.in_ok-length-in-Due.ensures in
     λ reply.
-        due_served (box_of g.S.Store.meaning c.args.self.now c.args.slab.now reply) c.args.sender c.in-Due.row c.in_ok-length-in-Due.length (message_of c.args.request) c.in_ok-row.field-0 _ c.carry_out.new.row (g.S.Store.meaning c.carry_out.new.store)
-        (g.met.S.Store.sound c.args.self.now.store) c.requires.received c.requires.orders c.requires.room at.within at.standing c.in-Due.is done.answer refl done.after
+    due_served (box_of g.S.Store.meaning c.args.self.now c.args.slab.now reply) c.args.sender c.in-Due.row c.in_ok-length-in-Due.length (message_of c.args.request) c.in_ok-row.field-0 _ c.carry_out.new.row (g.S.Store.meaning c.carry_out.new.store)
+    (g.met.S.Store.sound c.args.self.now.store) c.requires.received c.requires.orders c.requires.room at.within at.standing c.in-Due.is done.answer refl done.after
