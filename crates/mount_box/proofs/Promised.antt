@@ -47,7 +47,7 @@ not_due : (records : List _) (sender : ℕ) (m n : Message) (j k : ℕ) → m �
 not_due records sender m n j k s p q = let e : standing records sender m.number ≡ standing records sender n.number = ap (λ x. standing records sender x.number) s in let z : ◌≡◌ {A = ℕ} 0 1 = cc in omega arith
 
 -- by its standing goes a read or a write
-pub orders_by : (b : Box) (sender : ℕ) (m : Message) (content : Content) → Orders content → by_content b sender m content ≡ by_standing b sender m (standing b.records sender m.number)
+orders_by : (b : Box) (sender : ℕ) (m : Message) (content : Content) → Orders content → by_content b sender m content ≡ by_standing b sender m (standing b.records sender m.number)
 orders_by b sender m (read_request is) o = refl
 orders_by b sender m (write_request ws) o = refl
 orders_by b sender m discovery_request o = absurd o
@@ -204,6 +204,10 @@ pub record Promises (b : Box) (sender : ℕ) (packet : List ℕ) (h : Handling) 
   pub groups : Groups b sender packet h
   pub others : Others b sender h
   pub back : Back b sender packet h
+
+-- a read or a write was served
+pub served : (b : Box) (sender : ℕ) (m : Message) {h : Handling} → Orders m.content → h ≡ by_standing b sender m (standing b.records sender m.number) → h ≡ by_content b sender m m.content
+served b sender m o e = e ∙ sym (orders_by b sender m m.content o)
 
 -- a message was responded to
 pub responded : (b : Box) (sender : ℕ) (packet : List ℕ) (m : Message) (h : Handling) → Sound b.contents → 8192 ≤ length b.slab → 512 ≤ length b.reply → Ok m ≡ packet_of packet → (Orders m.content → length b.records ≡ 16) → h ≡ by_content b sender m m.content → Promises b sender packet h

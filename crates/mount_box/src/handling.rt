@@ -43,32 +43,6 @@ impl<S: Store> MountBox<S> {
         }
     }
 
-    /// Answers a request, a Discovery in the reply buffer, or turns an answer down.
-    fn respond(
-        &mut self,
-        slab: &mut [u8],
-        reply: &mut [u8],
-        sender: u32,
-        request: Packet<'_>,
-    ) -> Result<Place, Refusal>
-        requires slab { 8192 ≤ length slab.old }
-        requires reply { 512 ≤ length reply.old }
-        requires received { Received (message_of request) }
-        ensures responded { outcome result (box_of S.meaning self.new slab.new reply.new) ≡ by_content (box_of S.meaning self.old slab.old reply.old) sender (message_of request.entry) (message_of request.entry).content }
-        ensures sixteen { Orders (message_of request.entry).content → length self.old.senders.records ≡ 16 }
-    {
-        match request.body {
-            Body::ReadRequest(_) | Body::WriteRequest(_) => self.serve(slab, sender, request),
-            Body::DiscoveryRequest => {
-                let length = carry_out(&mut self.store, reply, request)?;
-                Ok(Place::Reply { length })
-            }
-            Body::ReadAnswer(_) | Body::WriteAnswer(_) | Body::DiscoveryAnswer(_) => {
-                Err(Refusal::Direction)
-            }
-        }
-    }
-
     /// Handles a packet from a sender, and tells the place of the reply. `slab_rows::part::hand_out` hands it out.
     pub fn handle(
         &mut self,
@@ -87,6 +61,15 @@ impl<S: Store> MountBox<S> {
             return Err(Refusal::ShortMemory);
         }
         let request = read_packet(packet)?;
-        self.respond(slab, reply, sender, request)
+        match request.body {
+            Body::ReadRequest(_) | Body::WriteRequest(_) => self.serve(slab, sender, request),
+            Body::DiscoveryRequest => {
+                let length = carry_out(&mut self.store, reply, request)?;
+                Ok(Place::Reply { length })
+            }
+            Body::ReadAnswer(_) | Body::WriteAnswer(_) | Body::DiscoveryAnswer(_) => {
+                Err(Refusal::Direction)
+            }
+        }
     }
 }
