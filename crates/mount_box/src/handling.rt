@@ -23,7 +23,6 @@ impl<S: Store> MountBox<S> {
         requires received { Received (message_of request) }
         requires orders { Orders (message_of request).content }
         ensures served { (reply : List ℕ) → outcome result (box_of S.meaning self.new slab.new reply) ≡ by_standing (box_of S.meaning self.old slab.old reply) sender (message_of request.entry) (standing self.old.senders.records sender request.entry.number) }
-        ensures sixteen { length self.old.senders.records ≡ 16 }
     {
         match self.senders.standing(sender, request.number)? {
             Standing::Repeated { row, length } => Ok(Place::Slab {

@@ -1,5 +1,5 @@
 //! The calls of the sender table: how a request stands, and one record lent to be changed.
-ghost use Rattle.std.specs.Prelude.{◌≡◌, ◌<◌, length, replicate, position, Some, IfSome, IfOk, slice_index_or};
+ghost use Rattle.std.specs.Prelude.{◌≡◌, ◌<◌, replicate, position, Some, IfSome, IfOk, slice_index_or};
 ghost use Rattle.std.specs.Option.{option_map};
 ghost use Rattle.std.specs.Borrow.{sem};
 ghost use Rattle.slab_rows.specs.Places.{told};
@@ -55,7 +55,6 @@ impl SenderTable {
         ensures standing { told standing_of result ≡ standing self.now.records sender number }
         ensures within { IfOk result (λ s. record_of (standing_of s) < 16) }
         ensures kept { IfOk result (KeptAt self.now.records) }
-        ensures sixteen { length self.now.records ≡ 16 }
     {
         match find(&self.records, sender) {
             Some((row, SenderRecord { newest, length, .. })) => match number.cmp(&newest) {

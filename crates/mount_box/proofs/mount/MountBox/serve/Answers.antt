@@ -4,10 +4,12 @@ use Rattle.mount_box.specs.Views.{box_of}
 use Rattle.mount_box.proofs.Served.{due_served}
 use Rattle.mount_box.proofs.mount.MountBox.serve.Goals as goal
 
-pub returns-in_ok-length-in-Due-clause-served : goal.returns-in_ok-length-in-Due-clause-served
-returns-in_ok-length-in-Due-clause-served g c =
+pub returns-in_ok-length-in-Due : goal.returns-in_ok-length-in-Due
+returns-in_ok-length-in-Due g c =
     let at = c.in_ok-row.ensures in
     let done = c.in_ok-length-in-Due.ensures in
-    λ reply.
-    due_served (box_of g.S.Store.meaning c.args.self.now c.args.slab.now reply) c.args.sender c.in-Due.row c.in_ok-length-in-Due.length (message_of c.args.request) c.in_ok-row.field-0 _ c.carry_out.new.row (g.S.Store.meaning c.carry_out.new.store)
-    (g.met.S.Store.sound c.args.self.now.store) c.requires.received c.requires.orders c.requires.room at.within at.standing c.in-Due.is done.answer refl done.after
+    record {
+      served = λ reply.
+          due_served (box_of g.S.Store.meaning c.args.self.now c.args.slab.now reply) c.args.sender c.in-Due.row c.in_ok-length-in-Due.length (message_of c.args.request) c.in_ok-row.field-0 _ c.carry_out.new.row (g.S.Store.meaning c.carry_out.new.store)
+          (g.met.S.Store.sound c.args.self.now.store) c.requires.received c.requires.orders c.requires.room at.within at.standing c.in-Due.is done.answer refl done.after;
+    }
