@@ -30,7 +30,7 @@ returns-in-ReadRequest g c =
     let m = message_of c.in_ok-request.request in
     let o : Orders m.content = elim c.in-ReadRequest.is [ inl w ↦ subst Orders (sym (ap content_of w.1)) tt | inr w ↦ subst Orders (sym (ap content_of w.1)) tt ] in
     let k = responded b c.args.sender c.args.packet.now m (outcome c.serve.result (box_of g.S.Store.meaning c.serve.new.self c.serve.new.slab c.args.reply.now))
-    (g.met.S.Store.sound c.args.self.now.store) c.if-slab-lt8192.false c.if-reply-lt512.false c.in_ok-request.ensures.read (λ _. search rules) (served b c.args.sender m o (c.serve.ensures.served c.args.reply.now)) in
+    (g.met.S.Store.sound c.args.self.now.store) c.if-slab-lt8192.false c.if-reply-lt512.false c.in_ok-request.ensures.read (search rules) (served b c.args.sender m o (c.serve.ensures.served c.args.reply.now)) in
     record { handled = k.handled; repeat = k.repeat; groups = k.groups; others = k.others; back = k.back }
 
 pub returns-in_ok-length-in-DiscoveryRequest : goal.returns-in_ok-length-in-DiscoveryRequest
@@ -40,5 +40,5 @@ returns-in_ok-length-in-DiscoveryRequest g c =
     let d = ap content_of c.in-DiscoveryRequest.is in
     let done = c.in_ok-length-in-DiscoveryRequest.ensures in
     let e = found_out b c.args.sender m c.in_ok-length-in-DiscoveryRequest.length c.carry_out.new.row (g.S.Store.meaning c.carry_out.new.store) c.if-reply-lt512.false d done.answer done.after in
-    let k = responded b c.args.sender c.args.packet.now m _ (g.met.S.Store.sound c.args.self.now.store) c.if-slab-lt8192.false c.if-reply-lt512.false c.in_ok-request.ensures.read (λ o. absurd (subst Orders d o)) e in
+    let k = responded b c.args.sender c.args.packet.now m _ (g.met.S.Store.sound c.args.self.now.store) c.if-slab-lt8192.false c.if-reply-lt512.false c.in_ok-request.ensures.read (search rules) e in
     record { handled = k.handled; repeat = k.repeat; groups = k.groups; others = k.others; back = k.back }
