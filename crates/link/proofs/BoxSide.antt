@@ -4,7 +4,7 @@
 --     Keeps b s l         what the box keeps of the sender s, of whose requests it carried out l
 --     box_steady, box_keeps   so it is after any calls
 --     Outcome, outcome    what handling a packet did to what was carried out for its sender
-use Rattle.std.proofs.Common.{◌≡◌, ℕ, zero, suc, ◌<◌, ◌≤◌, Bool, true, false, cond, eqb, ◌⊎◌, List, [], ◌∷◌, length, get_or, set, replicate, Ok, Err, Result, sym, refl, ap, ◌∙◌, subst, inl, inr, arith}
+use Rattle.std.proofs.Common.{◌≡◌, ℕ, zero, suc, ◌<◌, ◌≤◌, Bool, true, false, cond, eqb, ◌⊎◌, List, [], ◌∷◌, length, get_or, set, replicate, Some, None, Ok, Err, Option, Result, sym, refl, ap, ◌∙◌, subst, inl, inr, arith}
 use Rattle.std.proofs.lemmas.List.{length-set, get_or-set_same, get_or-set_other}
 use Rattle.std.proofs.lemmas.Bool.{and_parts, and_left, and_right, and_from, cases_eq, eq-eqb, ne_eqb, eqb-true, eqb-false, not-true, true≢false}
 use Rattle.protocol.specs.declared.refusal.Refusal.{Refusal}
@@ -16,7 +16,7 @@ use Rattle.store.specs.Contents.{Contents, Sound}
 use Rattle.store.specs.Owner.{owner_write_of}
 use Rattle.store.proofs.Texted.{owner_texted, texted_sound}
 use Rattle.mount_box.specs.declared.senders.SenderRecord.{SenderRecord}
-use Rattle.mount_box.specs.Senders.{blank, noted, is_of, is_empty}
+use Rattle.mount_box.specs.Senders.{blank, noted, is_of, is_empty, newest_of, length_of}
 use Rattle.mount_box.specs.Handling.{Box, Handling, reply_to, discovered, carried, handled}
 use Rattle.link.specs.Calls.{BoxCall, handle, owner_write, Mem, replied_with}
 use Rattle.link.specs.Carryings.{Carrying, transacts, repeats, carries, carryings, Below, InOrder}
@@ -47,14 +47,14 @@ module _ {X : Type 0} (p : X → Bool) where
 pub record Steady (b : Box) : Type 0 where
   pub sixteen : length b.records ≡ 16
   pub sound : Sound b.contents
-  pub short : (k : ℕ) → (record_at b k).length ≤ 512
+  pub short : (k : ℕ) → length_of (record_at b k) ≤ 512
 
 pub data Handles (b : Box) (s : ℕ) : Result Message Refusal → Result (List ℕ) Refusal → Box → Type 0 where
   turns : {r : Result Message Refusal} (reason : Refusal) → Handles b s r (Err reason) b
   shows : {m : Message} → m.content ≡ discovery_request → (bytes : List ℕ) → bytes ≡ bytes_of (reply_to b.contents m) → packet_of bytes ≡ Ok (reply_to b.contents m)
       → Handles b s (Ok m) (Ok bytes) (discovered b bytes).after
-  again : {m : Message} → transacts m.content ≡ true → place b s < 16 → m.number ≡ (record_at b (place b s)).newest
-      → Handles b s (Ok m) (Ok (in_row b.slab (place b s) (record_at b (place b s)).length)) b
+  again : {m : Message} → transacts m.content ≡ true → place b s < 16 → m.number ≡ newest_of (record_at b (place b s))
+      → Handles b s (Ok m) (Ok (in_row b.slab (place b s) (length_of (record_at b (place b s))))) b
   carries_out : {m : Message} {k : ℕ} → transacts m.content ≡ true → Serves b s m.number k → 8192 ≤ length b.slab
       → (bytes : List ℕ) → bytes ≡ bytes_of (reply_to b.contents m) → length bytes ≤ 485 → packet_of bytes ≡ Ok (reply_to b.contents m)
       → Handles b s (Ok m) (Ok bytes) (carried b s m k bytes).after
@@ -73,7 +73,7 @@ module _ (b : Box) (ok : Steady b) (s : ℕ) (p : List ℕ) where
       let h = room.reply in
       rw (part_reply b.slab b.reply bytes (omega arith)) (shows d bytes refl (reply_back b.contents ok.sound p m e))
   handles (H.again {m = m} room t h n) e =
-      rw (part_row b.slab b.reply (place b s) (record_at b (place b s)).length h (ok.short (place b s)) room.slab) (again t h n)
+      rw (part_row b.slab b.reply (place b s) (length_of (record_at b (place b s))) h (ok.short (place b s)) room.slab) (again t h n)
   handles (H.carries_out {m = m} {k = k} room t h) e =
       let bytes = bytes_of (reply_to b.contents m) in
       let l = reply_size b.contents ok.sound p m e in
@@ -88,10 +88,10 @@ module _ (b : Box) (ok : Steady b) (s : ℕ) (p : List ℕ) where
 
 -- the box stays steady
 module _ (b : Box) (ok : Steady b) where
-  noted_short : (k n : ℕ) (y : SenderRecord) → k < 16 → y.length ≤ 512 → (get_or (set b.records k y) n blank).length ≤ 512
+  noted_short : (k n : ℕ) (y : Option SenderRecord) → k < 16 → length_of y ≤ 512 → length_of (get_or (set b.records k y) n blank) ≤ 512
   noted_short k n y low h = go (cases_eq n k)
     where
-      go : (n ≡ k) ⊎ (n ≡ k → ⊥) → (get_or (set b.records k y) n blank).length ≤ 512
+      go : (n ≡ k) ⊎ (n ≡ k → ⊥) → length_of (get_or (set b.records k y) n blank) ≤ 512
       go (inl e) = let l = ok.sixteen in rw (e, get_or-set_same b.records k y blank (omega arith)) h
       go (inr d) = rw (get_or-set_other b.records k n y blank d) (ok.short n)
 
@@ -106,7 +106,7 @@ module _ (b : Box) (ok : Steady b) where
         short = λ n. noted_short k n (noted s m.number (length bytes)) (serves_low h) (omega arith);
       }
 
-blank_short : (n k : ℕ) → (get_or (replicate n blank) k blank).length ≤ 512
+blank_short : (n k : ℕ) → length_of (get_or (replicate n blank) k blank) ≤ 512
 blank_short zero k = omega arith
 blank_short (suc n) zero = omega arith
 blank_short (suc n) (suc k) = blank_short n k
@@ -128,7 +128,7 @@ box_steady b ok (owner_write k t text code ∷ cs) =
 -- what is carried out is what record k tells of
 abbrev pub Tells : Box → ℕ → List Carrying → Type 0
 Tells b k [] = ⊥
-Tells b k (x ∷ xs) = (x.number ≡ (record_at b k).newest) × (x.reply ≡ in_row b.slab k (record_at b k).length)
+Tells b k (x ∷ xs) = (x.number ≡ newest_of (record_at b k)) × (x.reply ≡ in_row b.slab k (length_of (record_at b k)))
 
 pub record Keeps (b : Box) (s : ℕ) (l : List Carrying) : Type 0 where
   pub newest : place b s < 16 → Tells b (place b s) l
@@ -140,7 +140,7 @@ below_more [] m n h t = tt
 below_more (x ∷ l) m n h t = (omega arith, below_more l m n h t.1)
 
 -- a number that is due is above all that were carried out
-below_newest : (b : Box) (k n : ℕ) (l : List Carrying) → Tells b k l → InOrder l → (record_at b k).newest < n → Below n l
+below_newest : (b : Box) (k n : ℕ) (l : List Carrying) → Tells b k l → InOrder l → newest_of (record_at b k) < n → Below n l
 below_newest b k n [] t o h = tt
 below_newest b k n (x ∷ l) t o h = let e = t.0 in let z : x.number < n = omega arith in (z, below_more l x.number n z o.0)
 
@@ -154,20 +154,28 @@ repeats_not n r stays [] h = refl
 repeats_not n r stays (x ∷ l) h = let z = h.0 in and_right stays _ (and_left (eqb n x.number) _ (ne_eqb n x.number (λ e. omega arith)))
 
 -- the number again that the record tells of is a repeat
-pub repeats_it : (b : Box) (k n : ℕ) (l : List Carrying) → Tells b k l → n ≡ (record_at b k).newest → repeats n (in_row b.slab k (record_at b k).length) true l ≡ true
+pub repeats_it : (b : Box) (k n : ℕ) (l : List Carrying) → Tells b k l → n ≡ newest_of (record_at b k) → repeats n (in_row b.slab k (length_of (record_at b k))) true l ≡ true
 repeats_it b k n [] t e = absurd t
-repeats_it b k n (x ∷ l) t e = and_from (eqb n x.number) _ (eq-eqb n x.number (e ∙ sym t.0)) (rw t.1 (same_self (in_row b.slab k (record_at b k).length)))
+repeats_it b k n (x ∷ l) t e = and_from (eqb n x.number) _ (eq-eqb n x.number (e ∙ sym t.0)) (rw t.1 (same_self (in_row b.slab k (length_of (record_at b k)))))
+
+-- a record is that of one sender alone
+of_one : (r : Option SenderRecord) (f s : ℕ) → is_of f r ≡ true → (f ≡ s → ⊥) → is_of s r ≡ false
+of_one None f s t d = refl
+of_one (Some r) f s t d = let a = eqb-true r.address f t in ne_eqb r.address s (λ q. d (sym a ∙ q))
+
+-- an empty one that of none
+of_none : (r : Option SenderRecord) (s : ℕ) → is_empty r ≡ true → is_of s r ≡ false
+of_none None s t = refl
+of_none (Some r) s t = absurd (true≢false (sym t))
 
 -- record k is not that of another sender
 served_other : (b : Box) (ok : Steady b) (f s n : ℕ) {k : ℕ} → Serves b f n k → (f ≡ s → ⊥) → is_of s (record_at b k) ≡ false
 served_other b ok f s n (known h e) d =
     let l = ok.sixteen in
-    let z = and_parts (record_at b (place b f)).filled _ (first_passes (is_of f) b.records blank (omega arith)) in
-    let a = eqb-true (record_at b (place b f)).address f z.1 in
-    and_right (record_at b (place b f)).filled _ (ne_eqb (record_at b (place b f)).address s (λ q. d (sym a ∙ q)))
+    of_one (record_at b (place b f)) f s (first_passes (is_of f) b.records blank (omega arith)) d
 served_other b ok f s n (fresh h e) d =
     let l = ok.sixteen in
-    and_left (record_at b (first_by is_empty b.records)).filled _ (not-true _ (first_passes is_empty b.records blank (omega arith)))
+    of_none (record_at b (first_by is_empty b.records)) s (first_passes is_empty b.records blank (omega arith))
 
 -- what is kept of one sender, when a packet of a sender was handled
 module _ (b : Box) (ok : Steady b) (s : ℕ) (l : List Carrying) (t : Keeps b s l) where
@@ -176,7 +184,7 @@ module _ (b : Box) (ok : Steady b) (s : ℕ) (l : List Carrying) (t : Keeps b s 
     where
       go : (xs : List Carrying) → Tells b j xs → Tells b' j xs
       go [] h = h
-      go (x ∷ xs) h = (h.0 ∙ sym (ap (λ (y : SenderRecord). y.newest) e), h.1 ∙ sym (rows (record_at b j).length (ok.short j)) ∙ ap (λ (y : SenderRecord). in_row b'.slab j y.length) (sym e))
+      go (x ∷ xs) h = (h.0 ∙ sym (ap newest_of e), h.1 ∙ sym (rows (length_of (record_at b j)) (ok.short j)) ∙ ap (λ (y : Option SenderRecord). in_row b'.slab j (length_of y)) (sym e))
 
   keeps_carried : (f : ℕ) (m : Message) (k : ℕ) (bytes : List ℕ) → (f ≡ s → ⊥) → Serves b f m.number k → 8192 ≤ length b.slab → length bytes ≤ 485 → Keeps (carried b f m k bytes).after s l
   keeps_carried f m k bytes d h full small =
@@ -214,7 +222,7 @@ module _ (b : Box) (ok : Steady b) (s : ℕ) (l : List Carrying) (t : Keeps b s 
       record {
         newest = λ z.
             subst (λ (i : ℕ). Tells b' i (record { number = m.number; request = m.content; reply = bytes } ∷ l)) (sym here)
-            (ap (λ (x : SenderRecord). x.newest) (sym noted_here), sym (row_here b.slab k bytes low (omega arith) full) ∙ ap (λ (x : SenderRecord). in_row b'.slab k x.length) (sym noted_here));
+            (ap newest_of (sym noted_here), sym (row_here b.slab k bytes low (omega arith) full) ∙ ap (λ (x : Option SenderRecord). in_row b'.slab k (length_of x)) (sym noted_here));
         none = λ z. absurd (omega arith);
         order = (serves_above l t h, t.order);
       }
@@ -235,7 +243,7 @@ pub data Outcome (l : List Carrying) : Result Message Refusal → Result (List �
   carried_out : {m : Message} (c : Contents) → Sound c → transacts m.content ≡ true → (bytes : List ℕ) → packet_of bytes ≡ Ok (reply_to c m)
       → Outcome l (Ok m) (Ok bytes) (record { number = m.number; request = m.content; reply = bytes } ∷ l)
 
-kept_in : (b : Box) (k : ℕ) (l : List Carrying) → Tells b k l → (x : Carrying) × Mem x l × (x.reply ≡ in_row b.slab k (record_at b k).length)
+kept_in : (b : Box) (k : ℕ) (l : List Carrying) → Tells b k l → (x : Carrying) × Mem x l × (x.reply ≡ in_row b.slab k (length_of (record_at b k)))
 kept_in b k [] h = absurd h
 kept_in b k (x ∷ l) h = (x, inl refl, h.1)
 

@@ -69,10 +69,9 @@ shown_allowed c rs is e h =
     and_from _ _ (counted_as is rs n h) (all_shown c rs is e)
 
 -- what a writer did with an order that is allowed
-answers_from : (allowed : Bool) (m n : Message) (r : Result ℕ Refusal) (before after : List ℕ) → allowed ≡ true → 512 ≤ length before → m ≡ n → r ≡ (written allowed m before).told → after ≡ (written allowed m before).row → Answers n r before after
-answers_from allowed m n r before after a room e t w =
-    let is : written allowed n before ≡ at_start (bytes_of n) before = rw (le-ltb (length before) 512 room, a) in
-    let all : written allowed m before ≡ at_start (bytes_of n) before = ap (λ x. written allowed x before) e ∙ is in
+answers_from : (allowed : Bool) (m n : Message) (r : Result ℕ Refusal) (before after : List ℕ) → allowed ≡ true → m ≡ n → r ≡ (written allowed m before).told → after ≡ (written allowed m before).row → Answers n r before after
+answers_from allowed m n r before after a e t w =
+    let all : written allowed m before ≡ written true n before = ap₂ (λ b x. written b x before) a e in
     record { told = t ∙ ap (λ x. x.told) all; row = w ∙ ap (λ x. x.row) all }
 
 pub length_codes : (c : Contents) (ws : List (ℕ × List ℕ)) → length (write_codes c ws) ≡ length ws
@@ -82,7 +81,7 @@ length_codes c (w ∷ ws) = ap suc (length_codes (write_text_of c w.0 w.1).after
 codes_counted : (c : Contents) (cs : List Code) (ws : List (ℕ × List ℕ)) → cs ≡ write_codes c ws → counted ws ≡ true → counted cs ≡ true
 codes_counted c cs ws e h = counted_as ws cs (sym (ap length e ∙ length_codes c ws)) h
 
-module _ (c : Contents) (version : Version) (number : ℕ) (r : Result ℕ Refusal) (before after : List ℕ) (room : 512 ≤ length before) where
+module _ (c : Contents) (version : Version) (number : ℕ) (r : Result ℕ Refusal) (before after : List ℕ) where
   -- the answer to a read
   pub read_answers : (rs : List (Result Value Code)) (is : List ℕ) → map readout_of rs ≡ map (shown c) is → counted is ≡ true
       → r ≡ (written (readings_allowed rs) (answered version number (read_answer (map readout_of rs))) before).told
@@ -90,7 +89,7 @@ module _ (c : Contents) (version : Version) (number : ℕ) (r : Result ℕ Refus
       → Answers (answered version number (read_answer (map (shown c) is))) r before after
   read_answers rs is e h t w =
       answers_from (readings_allowed rs) (answered version number (read_answer (map readout_of rs))) (answered version number (read_answer (map (shown c) is))) r before after
-      (shown_allowed c rs is e h) room (ap (λ xs. answered version number (read_answer xs)) e) t w
+      (shown_allowed c rs is e h) (ap (λ xs. answered version number (read_answer xs)) e) t w
 
   -- the answer to a write
   pub write_answers : (cs : List Code) (ws : List (ℕ × List ℕ)) → cs ≡ write_codes c ws → counted ws ≡ true
@@ -99,7 +98,7 @@ module _ (c : Contents) (version : Version) (number : ℕ) (r : Result ℕ Refus
       → Answers (answered version number (write_answer (write_codes c ws))) r before after
   write_answers cs ws e h t w =
       answers_from (counted cs) (answered version number (write_answer cs)) (answered version number (write_answer (write_codes c ws))) r before after
-      (codes_counted c cs ws e h) room (ap (λ xs. answered version number (write_answer xs)) e) t w
+      (codes_counted c cs ws e h) (ap (λ xs. answered version number (write_answer xs)) e) t w
 
   -- the answer to Discovery
   pub who_answers : (x y : Result Value Code) → reading x ≡ read_of c 2 → reading y ≡ read_of c 3
@@ -110,7 +109,7 @@ module _ (c : Contents) (version : Version) (number : ℕ) (r : Result ℕ Refus
       let p = read_shown c 2 x d in
       let q = read_shown c 3 y e in
       answers_from (told x && told y) (answered version number (discovery_answer (readout_of x ∷ readout_of y ∷ []))) (answered version number (who c)) r before after
-      (and_from (told x) (told y) (shown_told c 2 x p) (shown_told c 3 y q)) room (ap₂ (λ a b. answered version number (discovery_answer (a ∷ b ∷ []))) p q) t w
+      (and_from (told x) (told y) (shown_told c 2 x p) (shown_told c 3 y q)) (ap₂ (λ a b. answered version number (discovery_answer (a ∷ b ∷ []))) p q) t w
 
 -- the groups of a message that was received
 pub received_counted : {X : Type 0} (m : Message) (xs : List X) → Received m → count_of m.content ≡ length xs → counted xs ≡ true

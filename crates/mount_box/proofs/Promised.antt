@@ -15,7 +15,7 @@ use Rattle.slab_rows.specs.declared.place.Place.{Place}
 use Rattle.slab_rows.specs.declared.place.Place.TheVariants.{Slab, Reply}
 use Rattle.store.specs.Contents.{Contents, Sound}
 use Rattle.store.specs.Owner.{write_text_of}
-use Rattle.mount_box.specs.Senders.{blank, noted, is_of, repeated, due, standing}
+use Rattle.mount_box.specs.Senders.{blank, noted, is_of, length_of, repeated, due, standing}
 use Rattle.mount_box.specs.Carrying.{coded, shown, write_codes, after_writes, replied, left_by}
 use Rattle.mount_box.specs.Answers.{Orders}
 use Rattle.mount_box.specs.Handling.{Box, Handling, reply_to, discovered, kept, carried, by_standing, by_content, short, handled}
@@ -92,7 +92,7 @@ fits b packet m sound s p ask =
     let reply : 512 ≤ length b.reply = ltb-false (length b.reply) 512 q.1 in
     record { few = few; back = reply_back b.contents sound packet m p; in_row = λ k h. omega arith; in_reply = omega arith }
 
-module _ (b : Box) (sender : ℕ) (packet : List ℕ) (sound : Sound b.contents) (all : (m : Message) → packet_of packet ≡ Ok m → Orders m.content → length b.records ≡ 16) where
+module _ (b : Box) (sender : ℕ) (packet : List ℕ) (sound : Sound b.contents) (sixteen : length b.records ≡ 16) where
   pub repeats : (h : Handling) → Handles b sender packet h → Repeats sender packet h
   repeats h (stopped reason) m n place q p o a r u e = absurd (no_place reason place a)
   repeats h (told w s t d) m n place q p o a r u e = absurd (not_both packet m w p t o d)
@@ -100,8 +100,7 @@ module _ (b : Box) (sender : ℕ) (packet : List ℕ) (sound : Sound b.contents)
       repeat_kept b sender k q n s r u (ap (standing b.records sender) (e ∙ ap (λ x. x.number) (same_message packet m w p t)) ∙ st)
   repeats h (done w k s t v st) m n place q p o a r u e =
       let f = fits b packet w sound s t (orders_ask w.content v) in
-      let sixteen : length b.records ≡ 16 = all w t v in
-      let d = due_for b.records sender w.number (all w t v) k st in
+      let d = due_for b.records sender w.number sixteen k st in
       let len = length (reply_bytes b w) in
       let after = (carried b sender w k (reply_bytes b w)).after in
       let number : n.number ≡ w.number = e ∙ ap (λ x. x.number) (same_message packet m w p t) in
@@ -109,7 +108,7 @@ module _ (b : Box) (sender : ℕ) (packet : List ℕ) (sound : Sound b.contents)
       let long : short after ≡ false = ap (λ l. ltb l 8192 || ltb (length b.reply) 512) (length_put b.slab (reply_bytes b w) (512 * k) (f.in_row k in')) ∙ s in
       let at : get_or after.records k blank ≡ noted sender w.number len = get_or-set_same b.records k (noted sender w.number len) blank (omega arith) in
       repeat_kept after sender k q n long r u (ap (standing after.records sender) number ∙ noted_again b.records sender w.number sixteen k len d)
-      ∙ (λ i. record { answer = Ok (Slab (512 * k) (at i).length); after = after })
+      ∙ (λ i. record { answer = Ok (Slab (512 * k) (length_of (at i))); after = after })
 
   pub others : (h : Handling) → Handles b sender packet h → Others b sender h
   others h (stopped reason) = refl
@@ -117,7 +116,7 @@ module _ (b : Box) (sender : ℕ) (packet : List ℕ) (sound : Sound b.contents)
       let f = fits b packet w sound s t (ap direction_of d) in
       record { records = refl; slab = refl; contents = refl; reply = put_outside b.reply (reply_bytes b w) 0 f.in_reply }
   others h (again w k s t v st) =
-      let known = known_by b.records sender w.number (all w t v) k st in
+      let known = known_by b.records sender w.number sixteen k st in
       record {
         row = k;
         inside = known.inside;
@@ -130,8 +129,7 @@ module _ (b : Box) (sender : ℕ) (packet : List ℕ) (sound : Sound b.contents)
       }
   others h (done w k s t v st) =
       let f = fits b packet w sound s t (orders_ask w.content v) in
-      let sixteen : length b.records ≡ 16 = all w t v in
-      let d = due_for b.records sender w.number (all w t v) k st in
+      let d = due_for b.records sender w.number sixteen k st in
       let in' : k < 16 = d.inside in
       let len = length (reply_bytes b w) in
       record {
@@ -148,8 +146,7 @@ module _ (b : Box) (sender : ℕ) (packet : List ℕ) (sound : Sound b.contents)
   reads_slab : (w : Message) (k : ℕ) (place : Place) → short b ≡ false → packet_of packet ≡ Ok w → Orders w.content → standing b.records sender w.number ≡ Ok (due k) → (carried b sender w k (reply_bytes b w)).answer ≡ Ok place → ReadsAt place (carried b sender w k (reply_bytes b w)).after (reply_to b.contents w)
   reads_slab w k place s t v st a =
       let f = fits b packet w sound s t (orders_ask w.content v) in
-      let sixteen : length b.records ≡ 16 = all w t v in
-      let d = due_for b.records sender w.number (all w t v) k st in
+      let d = due_for b.records sender w.number sixteen k st in
       let same = ok_same (Slab (512 * k) (length (reply_bytes b w))) place a in
       record {
         bytes = reply_bytes b w;
@@ -205,20 +202,23 @@ pub record Promises (b : Box) (sender : ℕ) (packet : List ℕ) (h : Handling) 
   pub others : Others b sender h
   pub back : Back b sender packet h
 
+-- a read or a write was served
+pub served : (b : Box) (sender : ℕ) (m : Message) {h : Handling} → Orders m.content → h ≡ by_standing b sender m (standing b.records sender m.number) → h ≡ by_content b sender m m.content
+served b sender m o e = e ∙ sym (orders_by b sender m m.content o)
+
 -- a message was responded to
-pub responded : (b : Box) (sender : ℕ) (packet : List ℕ) (m : Message) (h : Handling) → Sound b.contents → 8192 ≤ length b.slab → 512 ≤ length b.reply → Ok m ≡ packet_of packet → (Orders m.content → length b.records ≡ 16) → h ≡ by_content b sender m m.content → Promises b sender packet h
+pub responded : (b : Box) (sender : ℕ) (packet : List ℕ) (m : Message) (h : Handling) → Sound b.contents → 8192 ≤ length b.slab → 512 ≤ length b.reply → Ok m ≡ packet_of packet → length b.records ≡ 16 → h ≡ by_content b sender m m.content → Promises b sender packet h
 responded b sender packet m h sound rows room p sixteen e =
     let q = sym p in
     let s : short b ≡ false = or_from _ _ (le-ltb (length b.slab) 8192 rows) (le-ltb (length b.reply) 512 room) in
-    let all : (n : Message) → packet_of packet ≡ Ok n → Orders n.content → length b.records ≡ 16 = λ n r o. sixteen (subst (λ x. Orders x.content) (same_message packet n m r q) o) in
     let w = handles b sender packet in
     let x = handled b sender packet in
     subst (Promises b sender packet) (handled_long b sender packet m s q ∙ sym e) (record {
       handled = refl;
-      repeat = repeats b sender packet sound all x w;
-      groups = groups b sender packet sound all x w;
-      others = others b sender packet sound all x w;
-      back = backs b sender packet sound all x w;
+      repeat = repeats b sender packet sound sixteen x w;
+      groups = groups b sender packet sound sixteen x w;
+      others = others b sender packet sound sixteen x w;
+      back = backs b sender packet sound sixteen x w;
     })
 
 -- a packet was refused

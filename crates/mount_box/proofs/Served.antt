@@ -1,9 +1,9 @@
 -- What handling leaves, from what its calls did.
 --     handled_long   where the memory is long enough, the message decides
---     served_size    a reply has at most 485 bytes
+--     in_room        in a row that is long enough the reply stands at the start
 --     due_served     a request that was due
 --     found_out      Discovery
-use Rattle.std.proofs.Common.{◌≡◌, ℕ, ◌+◌, ◌-◌, ◌*◌, ◌<◌, ◌≤◌, false, cond, List, ◌++◌, length, take, drop, set, Ok, Result, sym, refl, ap, ◌∙◌, subst, zero-add, arith}
+use Rattle.std.proofs.Common.{◌≡◌, ℕ, ◌+◌, ◌-◌, ◌*◌, ◌<◌, ◌≤◌, true, false, cond, List, ◌++◌, length, take, drop, set, Ok, Option, Result, sym, refl, ap, ◌∙◌, subst, zero-add, arith}
 use borrow.Rule.Slice.PartMut.{put_mid}
 use Rattle.protocol.specs.Rows.{put_at}
 use Rattle.protocol.specs.declared.refusal.Refusal.{Refusal}
@@ -11,6 +11,9 @@ use Rattle.protocol.specs.declared.refusal.Refusal.TheVariants.{ShortMemory}
 use Rattle.field.specs.declared.words.Direction.TheVariants.{Request}
 use Rattle.packet.specs.Messages.{Message, Content, read_request, write_request, discovery_request, read_answer, write_answer, discovery_answer, direction_of, packet_of}
 use Rattle.writer.specs.Bytes.{bytes_of}
+use Rattle.writer.specs.Written.{written, at_start}
+use Rattle.std.proofs.lemmas.Bool.{le-ltb}
+use Rattle.std.proofs.lemmas.List.{length-take, length-drop}
 use Rattle.slab_rows.specs.Rows.{rowed}
 use Rattle.slab_rows.specs.declared.place.Place.TheVariants.{Slab, Reply}
 use Rattle.slab_rows.proofs.Written.{part_written}
@@ -42,27 +45,26 @@ orders_ask (discovery_answer xs) o = absurd o
 pub carries_answers : (c : Contents) (m : Message) (r : Result ℕ Refusal) (before after : List ℕ) → direction_of m.content ≡ Request → Carries c m r before after → Answers (reply_to c m) r before after
 carries_answers c m r before after d h = rw d at h
 
--- with at most 485 bytes
-pub served_size : (c : Contents) (m : Message) (n : ℕ) (before after : List ℕ) → Sound c → Received m → Orders m.content → Carries c m (Ok n) before after → n ≤ 485
-served_size c m n before after ok p o h =
-    let d = orders_ask m.content o in
-    let a = carries_answers c m (Ok n) before after d h in
-    let same : n ≡ length (bytes_of (reply_to c m)) = let t = a.told in cc in
-    let size : length (bytes_of (reply_to c m)) ≤ 485 = reply_size c ok p.0 m p.1 in
-    omega arith
+-- in a row that is long enough it stands at the start
+pub in_room : (m : Message) (r : Result ℕ Refusal) (before after : List ℕ) → 512 ≤ length before → Answers m r before after → (r ≡ Ok (length (bytes_of m))) × (after ≡ bytes_of m ++ drop (length (bytes_of m)) before)
+in_room m r before after room a =
+    let is : written true m before ≡ at_start (bytes_of m) before = rw (le-ltb (length before) 512 room) in
+    (a.told ∙ ap (λ x. x.told) is, a.row ∙ ap (λ x. x.row) is)
 
 -- the row that the reply went to, put back
 row_served : (c : Contents) (m : Message) (k n : ℕ) (slab row : List ℕ) → Sound c → Received m → Orders m.content → k < 16 → 8192 ≤ length slab → Carries c m (Ok n) (take (512 * k + 512 - 512 * k) (drop (512 * k) slab)) row
     → (n ≡ length (bytes_of (reply_to c m))) × (put_mid (512 * k) (512 * k + 512 - 512 * k) slab row ≡ rowed slab k (bytes_of (reply_to c m)))
 row_served c m k n slab row ok p o h room a =
     let d = orders_ask m.content o in
-    let w = carries_answers c m (Ok n) (take (512 * k + 512 - 512 * k) (drop (512 * k) slab)) row d a in
-    let same : n ≡ length (bytes_of (reply_to c m)) = let t = w.told in cc in
+    let part = take (512 * k + 512 - 512 * k) (drop (512 * k) slab) in
+    let long : 512 ≤ length part = simp (length-take, length-drop) (omega arith) in
+    let w = in_room (reply_to c m) (Ok n) part row long (carries_answers c m (Ok n) part row d a) in
+    let same : n ≡ length (bytes_of (reply_to c m)) = let t = w.0 in cc in
     let size : length (bytes_of (reply_to c m)) ≤ 485 = reply_size c ok p.0 m p.1 in
-    (same, part_written (512 * k) (512 * k + 512 - 512 * k) slab (bytes_of (reply_to c m)) row (omega arith) (omega arith) w.row)
+    (same, part_written (512 * k) (512 * k + 512 - 512 * k) slab (bytes_of (reply_to c m)) row (omega arith) (omega arith) w.1)
 
 -- what is due is carried out
-pub due_served : (b : Box) (sender k n : ℕ) (m : Message) (s : Standing) (r : SenderRecord) (row : List ℕ) (left : Contents) → Sound b.contents → Received m → Orders m.content → 8192 ≤ length b.slab
+pub due_served : (b : Box) (sender k n : ℕ) (m : Message) (s : Standing) (r : Option SenderRecord) (row : List ℕ) (left : Contents) → Sound b.contents → Received m → Orders m.content → 8192 ≤ length b.slab
     → record_of (standing_of s) < 16 → Ok (standing_of s) ≡ standing b.records sender m.number → s ≡ Due k
     → Carries b.contents m (Ok n) (take (512 * k + 512 - 512 * k) (drop (512 * k) b.slab)) row → r ≡ noted sender m.number n → left ≡ left_by b.contents m.content
     → outcome (Ok (Slab (512 * k) n)) (record { records = set b.records k r; slab = put_mid (512 * k) (512 * k + 512 - 512 * k) b.slab row; reply = b.reply; contents = left }) ≡ by_standing b sender m (standing b.records sender m.number)
@@ -75,13 +77,13 @@ due_served b sender k n m s r row left ok p o room in' st is a re le =
     done ∙ ap (by_standing b sender m) (ap (λ x. Ok (standing_of x)) (sym is) ∙ st)
 
 -- Discovery is answered at the start of the reply buffer
-pub found_out : (b : Box) (sender : ℕ) (m : Message) (n : ℕ) (reply : List ℕ) (left : Contents) → m.content ≡ discovery_request → Carries b.contents m (Ok n) b.reply reply → left ≡ left_by b.contents m.content
+pub found_out : (b : Box) (sender : ℕ) (m : Message) (n : ℕ) (reply : List ℕ) (left : Contents) → 512 ≤ length b.reply → m.content ≡ discovery_request → Carries b.contents m (Ok n) b.reply reply → left ≡ left_by b.contents m.content
     → outcome (Ok (Reply n)) (record { records = b.records; slab = b.slab; reply = reply; contents = left }) ≡ by_content b sender m m.content
-found_out b sender m n reply left d a e =
-    let w = carries_answers b.contents m (Ok n) b.reply reply (ap direction_of d) a in
+found_out b sender m n reply left room d a e =
+    let w = in_room (reply_to b.contents m) (Ok n) b.reply reply room (carries_answers b.contents m (Ok n) b.reply reply (ap direction_of d) a) in
     let bytes = bytes_of (reply_to b.contents m) in
-    let same : n ≡ length (bytes_of (reply_to b.contents m)) = let t = w.told in cc in
-    let front : reply ≡ put_at b.reply 0 (bytes_of (reply_to b.contents m)) = w.row ∙ sym (ap (λ k. bytes ++ drop k b.reply) (zero-add (length bytes))) in
+    let same : n ≡ length (bytes_of (reply_to b.contents m)) = let t = w.0 in cc in
+    let front : reply ≡ put_at b.reply 0 (bytes_of (reply_to b.contents m)) = w.1 ∙ sym (ap (λ k. bytes ++ drop k b.reply) (zero-add (length bytes))) in
     let done : outcome (Ok (Reply n)) (record { records = b.records; slab = b.slab; reply = reply; contents = left }) ≡ discovered b (bytes_of (reply_to b.contents m)) =
     λ t. outcome (Ok (Reply (same t))) (record { records = b.records; slab = b.slab; reply = front t; contents = (e ∙ ap (left_by b.contents) d) t }) in
     done ∙ sym (ap (by_content b sender m) d)

@@ -3,13 +3,13 @@
 --     Orders content               it asks to read or to write
 --     Answers m r before after     the answer m was written
 --     Carries c m r before after   a message was carried out where the store means c
-use Rattle.std.specs.Prelude.{◌≡◌, ℕ, List, ◌++◌, length, drop, Ok, Err, Result}
+use Rattle.std.specs.Prelude.{◌≡◌, ℕ, true, List, Ok, Err, Result}
 use Rattle.protocol.specs.declared.refusal.Refusal.{Refusal}
 use Rattle.protocol.specs.declared.refusal.Refusal.TheVariants as R
 use Rattle.field.specs.declared.words.Direction.{Direction}
 use Rattle.field.specs.declared.words.Direction.TheVariants.{Request, Answer}
 use Rattle.packet.specs.Messages.{Message, Content, read_request, write_request, discovery_request, read_answer, write_answer, discovery_answer, direction_of, packet_of}
-use Rattle.writer.specs.Bytes.{bytes_of}
+use Rattle.writer.specs.Written.{written}
 use Rattle.store.specs.Contents.{Contents}
 use Rattle.mount_box.specs.Handling.{reply_to}
 
@@ -17,10 +17,11 @@ use Rattle.mount_box.specs.Handling.{reply_to}
 abbrev pub Received : Message → Type 0
 Received m = (bytes : List ℕ) × (packet_of bytes ≡ Ok m)
 
--- the packet stands at the row's start, the rest of the row is as it was, and its length is told
+-- in a row of 512 bytes or more the packet stands at the start, the rest of the row is as it was, and its length is told;
+-- a shorter row stays, and gets the refusal
 pub record Answers (m : Message) (r : Result ℕ Refusal) (before after : List ℕ) : Type 0 where
-  pub told : r ≡ Ok (length (bytes_of m))
-  pub row : after ≡ bytes_of m ++ drop (length (bytes_of m)) before
+  pub told : r ≡ (written true m before).told
+  pub row : after ≡ (written true m before).row
 
 -- a request is answered, an answer turned down
 abbrev pub CarriesBy : Direction → Contents → Message → Result ℕ Refusal → List ℕ → List ℕ → Type 0

@@ -1,6 +1,6 @@
 -- What becomes of a packet at a box.
 --     handled b sender packet   the answer, and what box, slab, reply buffer and store hold afterwards
-use Rattle.std.specs.Prelude.{ℕ, ◌*◌, Bool, cond, ◌||◌, List, length, Ok, Err, Result, nat_lt, slice_index_or, slice_set}
+use Rattle.std.specs.Prelude.{ℕ, ◌*◌, Bool, cond, ◌||◌, List, length, Ok, Err, Option, Result, nat_lt, slice_index_or, slice_set}
 use Rattle.protocol.specs.Rows.{put_at}
 use Rattle.protocol.specs.declared.refusal.Refusal.{Refusal}
 use Rattle.protocol.specs.declared.refusal.Refusal.TheVariants.{ShortMemory, Direction}
@@ -11,13 +11,13 @@ use Rattle.slab_rows.specs.declared.place.Place.{Place}
 use Rattle.slab_rows.specs.declared.place.Place.TheVariants.{Slab, Reply}
 use Rattle.store.specs.Contents.{Contents}
 use Rattle.mount_box.specs.declared.senders.SenderRecord.{SenderRecord}
-use Rattle.mount_box.specs.Senders.{blank, noted, Standing, repeated, due, standing}
+use Rattle.mount_box.specs.Senders.{blank, noted, length_of, Standing, repeated, due, standing}
 use Rattle.mount_box.specs.Carrying.{replied, left_by}
 
 -- a box with the memory that is handed in with each call: the sixteen sender records, the slab, the reply buffer, and
 -- what its store means
 pub record Box : Type 0 where
-  pub records : List SenderRecord
+  pub records : List (Option SenderRecord)
   pub slab : List ℕ
   pub reply : List ℕ
   pub contents : Contents
@@ -44,7 +44,7 @@ discovered b bytes = record {
 
 -- a repeat gets the kept reply, and nothing changes
 abbrev pub kept : Box → ℕ → Handling
-kept b k = record { answer = Ok (Slab (512 * k) (slice_index_or b.records k blank).length); after = b }
+kept b k = record { answer = Ok (Slab (512 * k) (length_of (slice_index_or b.records k blank))); after = b }
 
 -- a request that is due is carried out; the reply goes to the front of row k, and record k is the sender's
 abbrev pub carried : Box → ℕ → Message → ℕ → List ℕ → Handling

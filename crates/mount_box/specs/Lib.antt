@@ -1,4 +1,5 @@
 pub mod Senders
+pub mod Lending
 pub mod Carrying
 pub mod Handling
 pub mod Answers

@@ -1,19 +1,25 @@
 -- How what the code holds is seen.
-use Rattle.std.specs.Prelude.{ℕ, List, Result}
+use Rattle.std.specs.Prelude.{◌≡◌, ℕ, List, Option, Result, slice_index_or}
 use Rattle.protocol.specs.declared.refusal.Refusal.{Refusal}
 use Rattle.slab_rows.specs.declared.place.Place.{Place}
 use Rattle.store.specs.Contents.{Contents}
 use Rattle.mount_box.specs.declared.mount.MountBox.{MountBox}
+use Rattle.mount_box.specs.declared.senders.SenderRecord.{SenderRecord}
 use Rattle.mount_box.specs.declared.standing.Standing.{Standing}
 use Rattle.mount_box.specs.declared.standing.Standing.TheVariants.{Repeated, Due}
-use Rattle.mount_box.specs.Senders.{repeated, due}
+use Rattle.mount_box.specs.Senders.{blank, length_of, repeated, due}
 use Rattle.mount_box.specs.Senders as senders
 use Rattle.mount_box.specs.Handling.{Box, Handling}
 
 -- how a request stands
 abbrev pub standing_of : Standing → senders.Standing
-standing_of (Repeated k) = repeated k
+standing_of (Repeated k n) = repeated k
 standing_of (Due k) = due k
+
+-- of a repeat, the length told is that of the record
+abbrev pub KeptAt : List (Option SenderRecord) → Standing → Type 0
+KeptAt records (Repeated k n) = n ≡ length_of (slice_index_or records k blank)
+KeptAt records (Due k) = Unit {0}
 
 -- the record that it stands by
 abbrev pub record_of : senders.Standing → ℕ

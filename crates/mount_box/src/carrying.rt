@@ -60,8 +60,7 @@ fn answer_read<S: Store>(
     number: u16,
     indices: Indices<'_>,
 ) -> Result<usize, Refusal>
-    requires room { 512 ≤ length row.old }
-    requires groups { counted (indices_ahead indices) ≡ true }
+    requires { counted (indices_ahead indices) ≡ true }
     ensures { Answers (answered version number (read_answer (map (shown (S.meaning store.now)) (indices_ahead indices.entry)))) result row.old row.new }
 {
     let mut readings = [Err(Code::NotFound); 10];
@@ -77,8 +76,7 @@ fn answer_write<S: Store>(
     number: u16,
     writes: Writes<'_>,
 ) -> Result<usize, Refusal>
-    requires room { 512 ≤ length row.old }
-    requires groups { counted (writes_ahead writes) ≡ true }
+    requires { counted (writes_ahead writes) ≡ true }
     ensures answer { Answers (answered version number (write_answer (write_codes (S.meaning store.old) (writes_ahead writes.entry)))) result row.old row.new }
     ensures after { S.meaning store.new ≡ after_writes (S.meaning store.old) (writes_ahead writes.entry) }
 {
@@ -89,7 +87,6 @@ fn answer_write<S: Store>(
 
 /// Answers a Discovery request at the front of the row.
 fn answer_discovery<S: Store>(store: &S, row: &mut [u8], number: u16) -> Result<usize, Refusal>
-    requires { 512 ≤ length row.old }
     ensures { Answers (answered V11 number (who (S.meaning store.now))) result row.old row.new }
 {
     write_discovery_answer(row, number, store.read(2), store.read(3))
@@ -101,8 +98,7 @@ pub(crate) fn carry_out<S: Store>(
     row: &mut [u8],
     request: Packet<'_>,
 ) -> Result<usize, Refusal>
-    requires room { 512 ≤ length row.old }
-    requires received { Received (message_of request) }
+    requires { Received (message_of request) }
     ensures answer { Carries (S.meaning store.old) (message_of request.entry) result row.old row.new }
     ensures after { S.meaning store.new ≡ left_by (S.meaning store.old) (message_of request.entry).content }
 {

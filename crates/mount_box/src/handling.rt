@@ -9,6 +9,7 @@ ghost use Rattle.mount_box.specs.Views.{box_of, outcome};
 
 use crate::carrying::carry_out;
 use crate::mount::MountBox;
+use crate::senders::SenderRecord;
 use crate::standing::Standing;
 use packet::packet::{Body, Packet, read_packet};
 use protocol::refusal::Refusal;
@@ -22,49 +23,21 @@ impl<S: Store> MountBox<S> {
         requires received { Received (message_of request) }
         requires orders { Orders (message_of request).content }
         ensures served { (reply : List ℕ) → outcome result (box_of S.meaning self.new slab.new reply) ≡ by_standing (box_of S.meaning self.old slab.old reply) sender (message_of request.entry) (standing self.old.senders.records sender request.entry.number) }
-        ensures sixteen { length self.old.senders.records ≡ 16 }
     {
         match self.senders.standing(sender, request.number)? {
-            Standing::Repeated(k) => {
-                let length = self.senders.records[k].length as usize;
-                Ok(Place::Slab {
-                    start: 512 * k,
-                    length,
-                })
-            }
-            Standing::Due(k) => {
-                let start = 512 * k;
+            Standing::Repeated { row, length } => Ok(Place::Slab {
+                start: 512 * row,
+                length,
+            }),
+            Standing::Due { row } => {
+                let start = 512 * row;
                 let length = carry_out(&mut self.store, &mut slab[start..start + 512], request)?;
-                self.senders
-                    .record_mut(k)
-                    .note(sender, request.number, length as u16);
+                *self.senders.record_mut(row) = Some(SenderRecord {
+                    address: sender,
+                    newest: request.number,
+                    length,
+                });
                 Ok(Place::Slab { start, length })
-            }
-        }
-    }
-
-    /// Answers a request, a Discovery in the reply buffer, or turns an answer down.
-    fn respond(
-        &mut self,
-        slab: &mut [u8],
-        reply: &mut [u8],
-        sender: u32,
-        request: Packet<'_>,
-    ) -> Result<Place, Refusal>
-        requires slab { 8192 ≤ length slab.old }
-        requires reply { 512 ≤ length reply.old }
-        requires received { Received (message_of request) }
-        ensures responded { outcome result (box_of S.meaning self.new slab.new reply.new) ≡ by_content (box_of S.meaning self.old slab.old reply.old) sender (message_of request.entry) (message_of request.entry).content }
-        ensures sixteen { Orders (message_of request.entry).content → length self.old.senders.records ≡ 16 }
-    {
-        match request.body {
-            Body::ReadRequest(_) | Body::WriteRequest(_) => self.serve(slab, sender, request),
-            Body::DiscoveryRequest => {
-                let length = carry_out(&mut self.store, reply, request)?;
-                Ok(Place::Reply { length })
-            }
-            Body::ReadAnswer(_) | Body::WriteAnswer(_) | Body::DiscoveryAnswer(_) => {
-                Err(Refusal::Direction)
             }
         }
     }
@@ -87,6 +60,15 @@ impl<S: Store> MountBox<S> {
             return Err(Refusal::ShortMemory);
         }
         let request = read_packet(packet)?;
-        self.respond(slab, reply, sender, request)
+        match request.body {
+            Body::ReadRequest(_) | Body::WriteRequest(_) => self.serve(slab, sender, request),
+            Body::DiscoveryRequest => {
+                let length = carry_out(&mut self.store, reply, request)?;
+                Ok(Place::Reply { length })
+            }
+            Body::ReadAnswer(_) | Body::WriteAnswer(_) | Body::DiscoveryAnswer(_) => {
+                Err(Refusal::Direction)
+            }
+        }
     }
 }

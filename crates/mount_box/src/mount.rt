@@ -8,7 +8,7 @@ use store::store::Store;
 /// A box: its sender records, and its store.
 #[derive(Drop)]
 pub struct MountBox<S: Store> {
-    pub(crate) senders: SenderTable<16>,
+    pub(crate) senders: SenderTable,
     pub(crate) store: S,
 }
 

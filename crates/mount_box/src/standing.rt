@@ -1,8 +1,10 @@
 //! How a request stands by the sender records.
 
-/// A request that is not refused: the number again that a record has, or one to carry out for a record.
-#[derive(Clone, Copy)]
+/// A request that is not refused.
+#[derive(Clone, Copy, Debug, PartialEq, Eq)]
 pub(crate) enum Standing {
-    Repeated(usize),
-    Due(usize),
+    /// The number again that this record has, with the length of the kept reply.
+    Repeated { row: usize, length: usize },
+    /// To be carried out for this record.
+    Due { row: usize },
 }

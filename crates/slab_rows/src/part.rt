@@ -9,10 +9,10 @@ use protocol::refusal::Refusal;
 fn piece(memory: &[u8], start: usize, length: usize) -> Result<&[u8], Refusal>
     ensures { told (λ x. x.now) result ≡ piece memory.now start length }
 {
-    if memory.len() < length || memory.len() - length < start {
-        return Err(Refusal::Limit);
-    }
-    Ok(&memory[start..start + length])
+    memory
+        .get(start..)
+        .and_then(|rest| rest.get(..length))
+        .ok_or(Refusal::Limit)
 }
 
 /// The part of the slab or of the reply buffer at the place, or the refusal where the place is not inside.

@@ -7,5 +7,5 @@ pub returns : goal.returns
 returns g c =
     let rs = take c.read_all-count.result c.read_all-count.new.readings in
     let wrote = c.write_read_answer.ensures in
-    read_answers (g.S.Store.meaning c.args.store.now) c.args.version c.args.number c.write_read_answer.result c.args.row.now c.write_read_answer.new.row c.requires.room
-    rs (indices_ahead c.args.indices) c.read_all-count.ensures.readings c.requires.groups wrote.told wrote.row
+    read_answers (g.S.Store.meaning c.args.store.now) c.args.version c.args.number c.write_read_answer.result c.args.row.now c.write_read_answer.new.row
+    rs (indices_ahead c.args.indices) c.read_all-count.ensures.readings c.requires wrote.told wrote.row

@@ -9,7 +9,7 @@ returns g c =
     let wrote = c.write_write_answer.ensures in
     record {
       answer =
-          write_answers (g.S.Store.meaning c.args.store.now) c.args.version c.args.number c.write_write_answer.result c.args.row.now c.write_write_answer.new.row c.requires.room
-          cs (writes_ahead c.args.writes) c.write_all-count.ensures.codes c.requires.groups wrote.told wrote.row;
+          write_answers (g.S.Store.meaning c.args.store.now) c.args.version c.args.number c.write_write_answer.result c.args.row.now c.write_write_answer.new.row
+          cs (writes_ahead c.args.writes) c.write_all-count.ensures.codes c.requires wrote.told wrote.row;
       after = c.write_all-count.ensures.after;
     }

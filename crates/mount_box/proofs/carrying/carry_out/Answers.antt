@@ -7,22 +7,16 @@ use Rattle.mount_box.proofs.Answering.{received_counted, discovery_carries}
 use Rattle.mount_box.proofs.carrying.carry_out.Goals as goal
 
 pub answer_read-requires : goal.answer_read-requires
-answer_read-requires g c = record {
-  room = c.requires.room;
-  groups = received_counted (message_of c.args.request) (indices_ahead c.in-ReadRequest.indices) c.requires.received (ap (λ b. count_of (content_of b)) c.in-ReadRequest.is);
-}
+answer_read-requires g c = received_counted (message_of c.args.request) (indices_ahead c.in-ReadRequest.indices) c.requires (ap (λ b. count_of (content_of b)) c.in-ReadRequest.is)
 
 pub answer_write-requires : goal.answer_write-requires
-answer_write-requires g c = record {
-  room = c.requires.room;
-  groups = received_counted (message_of c.args.request) (writes_ahead c.in-WriteRequest.writes) c.requires.received (ap (λ b. count_of (content_of b)) c.in-WriteRequest.is);
-}
+answer_write-requires g c = received_counted (message_of c.args.request) (writes_ahead c.in-WriteRequest.writes) c.requires (ap (λ b. count_of (content_of b)) c.in-WriteRequest.is)
 
 pub returns-in-DiscoveryRequest : goal.returns-in-DiscoveryRequest
 returns-in-DiscoveryRequest g c =
     let m = g.S.Store.meaning c.args.store.now in
     let content = ap content_of c.in-DiscoveryRequest.is in
     record {
-      answer = discovery_carries m (message_of c.args.request) c.answer_discovery.result c.args.row.now c.answer_discovery.new.row c.requires.received content c.answer_discovery.ensures;
+      answer = discovery_carries m (message_of c.args.request) c.answer_discovery.result c.args.row.now c.answer_discovery.new.row c.requires content c.answer_discovery.ensures;
       after = sym (ap (left_by m) content);
     }

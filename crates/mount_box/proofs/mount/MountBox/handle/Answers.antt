@@ -1,10 +1,12 @@
-use Rattle.std.proofs.Common.{◌≡◌, Err, refl, rules}
+use Rattle.std.proofs.Common.{◌≡◌, Err, sym, refl, ap, subst, inl, inr, rules}
 use Rattle.std.proofs.lemmas.Result.{err_from_is_err_and}
 use Rattle.protocol.specs.declared.refusal.Refusal.TheVariants.{ShortMemory}
-use Rattle.packet.specs.Packets.{message_of}
+use Rattle.packet.specs.Packets.{message_of, content_of}
+use Rattle.mount_box.specs.Answers.{Orders}
 use Rattle.mount_box.specs.Handling.{handled}
 use Rattle.mount_box.specs.Views.{box_of, outcome}
-use Rattle.mount_box.proofs.Promised.{responded, refused_so}
+use Rattle.mount_box.proofs.Promised.{served, responded, refused_so}
+use Rattle.mount_box.proofs.Served.{found_out}
 use Rattle.mount_box.proofs.mount.MountBox.handle.Goals as goal
 
 pub returns-then-slab-lt8192 : goal.returns-then-slab-lt8192
@@ -22,11 +24,21 @@ returns-in_err-request g c =
     let k = refused_so b c.args.sender c.args.packet.now c.from_residual.result p.0 p.1 e in
     record { handled = k.handled; repeat = k.repeat; groups = k.groups; others = k.others; back = k.back }
 
-pub returns : goal.returns
-returns g c =
+pub returns-in-ReadRequest : goal.returns-in-ReadRequest
+returns-in-ReadRequest g c =
     let b = box_of g.S.Store.meaning c.args.self.now c.args.slab.now c.args.reply.now in
-    let after = box_of g.S.Store.meaning c.respond.new.self c.respond.new.slab c.respond.new.reply in
-    let told = c.respond.ensures in
-    let k = responded b c.args.sender c.args.packet.now (message_of c.in_ok-request.request) (outcome c.respond.result after)
-    (g.met.S.Store.sound c.args.self.now.store) c.if-slab-lt8192.false c.if-reply-lt512.false c.in_ok-request.ensures.read told.sixteen told.responded in
+    let m = message_of c.in_ok-request.request in
+    let o : Orders m.content = elim c.in-ReadRequest.is [ inl w ↦ subst Orders (sym (ap content_of w.1)) tt | inr w ↦ subst Orders (sym (ap content_of w.1)) tt ] in
+    let k = responded b c.args.sender c.args.packet.now m (outcome c.serve.result (box_of g.S.Store.meaning c.serve.new.self c.serve.new.slab c.args.reply.now))
+    (g.met.S.Store.sound c.args.self.now.store) c.if-slab-lt8192.false c.if-reply-lt512.false c.in_ok-request.ensures.read (search rules) (served b c.args.sender m o (c.serve.ensures.served c.args.reply.now)) in
+    record { handled = k.handled; repeat = k.repeat; groups = k.groups; others = k.others; back = k.back }
+
+pub returns-in_ok-length-in-DiscoveryRequest : goal.returns-in_ok-length-in-DiscoveryRequest
+returns-in_ok-length-in-DiscoveryRequest g c =
+    let b = box_of g.S.Store.meaning c.args.self.now c.args.slab.now c.args.reply.now in
+    let m = message_of c.in_ok-request.request in
+    let d = ap content_of c.in-DiscoveryRequest.is in
+    let done = c.in_ok-length-in-DiscoveryRequest.ensures in
+    let e = found_out b c.args.sender m c.in_ok-length-in-DiscoveryRequest.length c.carry_out.new.row (g.S.Store.meaning c.carry_out.new.store) c.if-reply-lt512.false d done.answer done.after in
+    let k = responded b c.args.sender c.args.packet.now m _ (g.met.S.Store.sound c.args.self.now.store) c.if-slab-lt8192.false c.if-reply-lt512.false c.in_ok-request.ensures.read (search rules) e in
     record { handled = k.handled; repeat = k.repeat; groups = k.groups; others = k.others; back = k.back }
