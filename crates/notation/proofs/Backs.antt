@@ -1,10 +1,11 @@
 -- A word that is written for bytes stands for them.
 use Rattle.std.proofs.Common.{◌≡◌, ℕ, suc, ◌+◌, ◌*◌, ◌/◌, ◌%◌, ◌<◌, true, false, eqb, List, [], ◌∷◌, ◌++◌, length, get_or, Some, sym, refl, ap, ◌∙◌, inl, inr, arith}
+use Rattle.std.specs.List.{flat_map}
 use Rattle.std.specs.Str.{bytes_eq}
 use Rattle.std.proofs.lemmas.Slice.Eq.{bytes_eq-Decides}
 use Rattle.std.proofs.lemmas.Bool.{cases_Bool, cond-true, cond-false, ne_eqb}
 use Rattle.std.proofs.lemmas.Bool.Decides.{nat_tests}
-use Rattle.notation.specs.Strings.{plain, hex_digit, digit_of, byte_of, escaped, front, front_hex, bytes_of, empty, noted_byte, noted_bytes, noted, word_of}
+use Rattle.notation.specs.Strings.{plain, hex_digit, digit_of, byte_of, escaped, front, front_hex, bytes_of, empty, noted_byte, word_of, WordsReadBack}
 use Rattle.notation.proofs.Notes.{escaped_step, plain_step}
 
 digit_back : (n : ℕ) → n < 16 → digit_of (hex_digit n) ≡ Some n
@@ -28,9 +29,9 @@ first_back b w h =
       | inr p ↦ ap (λ s. bytes_of (s ++ w)) (cond-false _ _ _ p) ∙ escaped_step (92 ∷ 120 ∷ hex_digit (b / 16) ∷ hex_digit (b % 16) ∷ w) (escape (hex_digit (b / 16)) (hex_digit (b % 16)) w) ∙ ap (λ o. front_hex o (bytes_of w)) (byte_back b h)
     ]
 
-bytes_back : (bs : List ℕ) → ((k : ℕ) → k < length bs → get_or bs k 0 < 256) → bytes_of (noted_bytes bs) ≡ Some bs
+bytes_back : (bs : List ℕ) → ((k : ℕ) → k < length bs → get_or bs k 0 < 256) → bytes_of (flat_map noted_byte bs) ≡ Some bs
 bytes_back [] h = refl
-bytes_back (b ∷ bs) h = first_back b (noted_bytes bs) (h 0 (omega arith)) ∙ ap (front b) (bytes_back bs (λ k l. h (suc k) (omega arith)))
+bytes_back (b ∷ bs) h = first_back b (flat_map noted_byte bs) (h 0 (omega arith)) ∙ ap (front b) (bytes_back bs (λ k l. h (suc k) (omega arith)))
 
 never : (w bs : List ℕ) → bytes_of w ≡ Some bs → w ≡ empty → ⊥
 never w bs e f = let z : ◌≡◌ {A = ℕ} 0 1 = cc (sym e ∙ ap bytes_of f) in omega arith
@@ -39,9 +40,9 @@ not_empty : (w bs : List ℕ) → bytes_of w ≡ Some bs → bytes_eq w empty �
 not_empty w bs e =
     elim (cases_Bool (bytes_eq w empty)) [ inl t ↦ absurd (never w bs e ((bytes_eq-Decides w empty).0 t)) | inr f ↦ f ]
 
-pub read_back : (bs : List ℕ) → ((k : ℕ) → k < length bs → get_or bs k 0 < 256) → word_of (noted bs) ≡ Some bs
+pub read_back : WordsReadBack
 read_back [] h = refl
 read_back (b ∷ bs) h =
     let n : eqb (length (b ∷ bs)) 0 ≡ false = ne_eqb (length (b ∷ bs)) 0 (λ e. omega arith) in
     let e = bytes_back (b ∷ bs) h in
-    ap word_of (cond-false _ _ _ n) ∙ cond-false _ _ _ (not_empty (noted_bytes (b ∷ bs)) (b ∷ bs) e) ∙ e
+    ap word_of (cond-false _ _ _ n) ∙ cond-false _ _ _ (not_empty (flat_map noted_byte (b ∷ bs)) (b ∷ bs) e) ∙ e

@@ -1,7 +1,9 @@
 -- The notation of byte strings in a line.
 --     noted bs      how bytes are written
 --     word_of w     the bytes that a word stands for, if it stands for any
-use Rattle.std.specs.Prelude.{ℕ, ◌+◌, ◌-◌, ◌*◌, ◌/◌, ◌%◌, Bool, cond, not, ◌&&◌, List, [], ◌∷◌, ◌++◌, length, Some, None, Option, ◌==◌, nat_le, nat_lt, slice_index}
+--     WordsReadBack    a word that is written for bytes stands for them
+use Rattle.std.specs.Prelude.{◌≡◌, ℕ, ◌+◌, ◌-◌, ◌*◌, ◌/◌, ◌%◌, ◌<◌, Bool, cond, not, ◌&&◌, List, [], ◌∷◌, length, Some, None, Option, ◌==◌, nat_le, nat_lt, slice_index}
+use Rattle.std.specs.List.{flat_map}
 use Rattle.std.specs.Option.{option_map}
 use Rattle.std.specs.Int.{is_in_range}
 use Rattle.std.specs.Str.{bytes_eq}
@@ -21,16 +23,12 @@ digit_of b = cond (is_in_range 48 57 b) (Some (b - 48)) (cond (is_in_range 97 10
 abbrev pub noted_byte : ℕ → List ℕ
 noted_byte b = cond (plain b) (b ∷ []) (92 ∷ 120 ∷ hex_digit (b / 16) ∷ hex_digit (b % 16) ∷ [])
 
-abbrev pub noted_bytes : List ℕ → List ℕ
-noted_bytes [] = []
-noted_bytes (b ∷ bs) = noted_byte b ++ noted_bytes bs
-
 -- the word for no bytes
 abbrev pub empty : List ℕ
 empty = 92 ∷ 101 ∷ []
 
 abbrev pub noted : List ℕ → List ℕ
-noted bs = cond (length bs == 0) empty (noted_bytes bs)
+noted bs = cond (length bs == 0) empty (flat_map noted_byte bs)
 
 -- a byte in front of those that the rest of a word stands for
 abbrev pub front : ℕ → Option (List ℕ) → Option (List ℕ)
@@ -64,3 +62,7 @@ bytes_of (b ∷ c ∷ d ∷ e ∷ rest) =
 
 abbrev pub word_of : List ℕ → Option (List ℕ)
 word_of w = cond (bytes_eq w empty) (Some []) (bytes_of w)
+
+-- a word that is written for bytes stands for them
+abbrev pub WordsReadBack : Type 0
+WordsReadBack = (bs : List ℕ) → ((k : ℕ) → k < length bs → slice_index bs k < 256) → word_of (noted bs) ≡ Some bs

@@ -1,18 +1,31 @@
 //! Byte strings: a byte from 0x21 to 0x7e but the backslash stands for itself, `\xNN` with two lower-case digits for any
 //! byte, and `\e` alone for the empty string.
-ghost use Rattle.std.specs.Prelude.{◌≡◌, ◌<◌, ◌++◌, length, IfSome, Some, None, vec_items, MatchOption, OnOk};
-ghost use Rattle.std.specs.Str.{bytes_eq};
-ghost use Rattle.notation.specs.Strings.{plain, hex_digit, digit_of, byte_of, escaped, front, bytes_of, empty, word_of, noted, noted_byte};
-ghost use Rattle.notation.specs.Readings.{Understood};
+ghost use Rattle.std.specs.Prelude.{◌≡◌, ◌<◌, length, IfSome, Some, vec_items};
+ghost use Rattle.std.specs.Iterator.{at_most};
+ghost use Rattle.notation.specs.Strings.{plain, digit_of, byte_of, word_of, noted, noted_byte, WordsReadBack};
+ghost use Rattle.notation.specs.Readings.{Understood, ReadsSign};
 
 use crate::trouble::Trouble;
-use std::alloc::{AllocError, Global};
+use std::alloc::Global;
+use std::fmt;
+
+/// Bytes in the notation of a word, which `decode` takes for them.
+#[derive(Clone, Copy)]
+pub struct Noted<'a>(pub &'a [u8]);
+
+/// A byte in the notation.
+#[derive(Clone, Copy)]
+struct NotedByte(u8);
+
+/// The signs of a word that are still to be read. Each stands for a byte.
+#[derive(Clone, Copy)]
+struct Signs<'a>(&'a [u8]);
 
 /// Whether a byte stands for itself.
 fn is_plain(b: u8) -> bool
     ensures { result ≡ plain b }
 {
-    0x21 <= b && b <= 0x7e && b != b'\\'
+    b.is_ascii_graphic() && b != b'\\'
 }
 
 /// The value of a lower-case hexadecimal digit.
@@ -27,14 +40,6 @@ fn digit(b: u8) -> Option<u8>
     }
 }
 
-/// The lower-case hexadecimal digit of a number below 16.
-fn hex(n: u8) -> u8
-    requires { n < 16 }
-    ensures { result ≡ hex_digit n }
-{
-    if n < 10 { b'0' + n } else { b'a' + n - 10 }
-}
-
 /// The byte that two hexadecimal digits write.
 fn hex_byte(high: u8, low: u8) -> Option<u8>
     ensures { result ≡ byte_of (digit_of high) (digit_of low) }
@@ -42,74 +47,62 @@ fn hex_byte(high: u8, low: u8) -> Option<u8>
     Some(digit(high)? * 16 + digit(low)?)
 }
 
-/// Whether a word begins with `\x` and has room for two digits behind it.
-fn is_escaped(word: &[u8]) -> bool
-    ensures { result ≡ escaped word.now }
-{
-    word.len() >= 4 && word[0] == b'\\' && word[1] == b'x'
-}
+impl Iterator for Signs<'_> {
+    type Item = Result<u8, Trouble>;
 
-/// The first byte that a word stands for, and the rest of the word.
-fn first_byte(word: &[u8]) -> Option<(u8, &[u8])>
-    requires { 0 < length word.now }
-    ensures { MatchOption result (bytes_of word.now ≡ None) (λ p. (bytes_of word.now ≡ front p.0 (bytes_of p.1.now)) × (length p.1.now < length word.now)) }
-{
-    if is_escaped(word) {
-        let byte = hex_byte(word[2], word[3])?;
-        return Some((byte, &word[4..]));
-    }
-    if is_plain(word[0]) {
-        return Some((word[0], &word[1..]));
-    }
-    None
-}
+    ghost next_gives = { λ s r t. ReadsSign s.0.now r t.0.now };
 
-/// Whether it is the word for no bytes.
-fn is_none(word: &[u8]) -> bool
-    ensures { result ≡ bytes_eq word.now empty }
-{
-    word == b"\\e".as_slice()
+    ghost remaining = { λ s. at_most (length s.0.now) };
+
+    fn next(&mut self) -> Option<Result<u8, Trouble>> {
+        let (byte, rest) = match self.0 {
+            [] => return None,
+            [b'\\', b'x', high, low, rest @ ..] => (hex_byte(*high, *low), rest),
+            [b, rest @ ..] => (is_plain(*b).then_some(*b), rest),
+        };
+        self.0 = rest;
+        Some(byte.ok_or(Trouble::NotUnderstood))
+    }
 }
 
 /// The bytes that a word stands for.
+#[tactic(auto, using(crate::proofs::Backs::read_back))]
 pub fn decode(heap: Global, word: &[u8]) -> Result<Vec<u8>, Trouble>
-    ensures { Understood vec_items (word_of word.now) result }
+    ensures taken { Understood vec_items (word_of word.now) result }
+    ensures back { WordsReadBack }
 {
     let mut bytes = Vec::new(heap);
-    if is_none(word) {
+    if word == b"\\e".as_slice() {
         return Ok(bytes);
     }
-    let mut left = word;
-    while !left.is_empty() {
-        let Some((b, rest)) = first_byte(left) else {
-            return Err(Trouble::NotUnderstood);
-        };
-        bytes.push(b)?;
-        left = rest;
+    for byte in Signs(word) {
+        bytes.push(byte?)?;
     }
     Ok(bytes)
 }
 
-/// Writes a byte in the notation.
-fn encode_byte(b: u8, out: &mut Vec<u8>) -> Result<(), AllocError>
-    ensures { OnOk result (out.new.items ≡ out.old.items ++ noted_byte b) }
-{
-    if is_plain(b) {
-        return out.extend_from_slice(&[b]);
+impl fmt::Display for NotedByte {
+    ghost output = { λ n. Some (noted_byte n.0) };
+
+    fn fmt<W: fmt::Write>(&self, f: &mut fmt::Formatter<W>) -> fmt::Result {
+        let b = self.0;
+        if is_plain(b) {
+            return f.write_char(char::from(b));
+        }
+        write!(f, "\\x{b:02x}")
     }
-    out.extend_from_slice(&[b'\\', b'x', hex(b / 16), hex(b % 16)])
 }
 
-/// Writes bytes in the notation of a word, which `decode` takes for them.
-pub fn encode(bytes: &[u8], out: &mut Vec<u8>) -> Result<(), AllocError>
-    ensures written { OnOk result (out.new.items ≡ out.old.items ++ noted bytes.now) }
-    ensures back { word_of (noted bytes.now) ≡ Some bytes.now }
-{
-    if bytes.is_empty() {
-        return out.extend_from_slice(b"\\e");
+impl fmt::Display for Noted<'_> {
+    ghost output = { λ n. Some (noted n.0.now) };
+
+    fn fmt<W: fmt::Write>(&self, f: &mut fmt::Formatter<W>) -> fmt::Result {
+        if self.0.is_empty() {
+            return write!(f, "\\e");
+        }
+        for b in self.0 {
+            write!(f, "{}", NotedByte(*b))?;
+        }
+        Ok(())
     }
-    for b in bytes {
-        encode_byte(*b, out)?;
-    }
-    Ok(())
 }

@@ -5,7 +5,7 @@ ghost use Rattle.notation.specs.declared.trouble.Trouble.TheVariants.{NoMemory};
 use std::alloc::{AllocError, AllocFailed};
 
 /// What keeps a command from being carried out.
-#[derive(Clone, Copy)]
+#[derive(Clone, Copy, Debug, PartialEq, Eq)]
 pub enum Trouble {
     /// The line is no command.
     NotUnderstood,
