@@ -29,6 +29,10 @@ abbrev pub cut_at : ℕ → List ℕ → Option (List ℕ × List ℕ)
 cut_at mark [] = None
 cut_at mark (b ∷ bs) = cond (b == mark) (Some ([], bs)) (option_map (onto b) (cut_at mark bs))
 
+-- what the first two colons part
+abbrev pub three_of : List ℕ → Option (List ℕ × List ℕ × List ℕ)
+three_of word = then (cut_at 58 word) (λ a. then (cut_at 58 a.1) (λ b. Some (a.0, b.0, b.1)))
+
 -- the bytes of a text, and whether the word `fixed` stands behind it
 abbrev pub fixed_by : List ℕ → Option (List ℕ × List ℕ) → Option (List ℕ × Bool)
 fixed_by text None = Some (text, false)
@@ -45,13 +49,12 @@ pub record Item : Type 0 where
 
 abbrev pub item_of : List ℕ → Option Item
 item_of word =
-    then (cut_at 58 word) (λ a.
-    then (cut_at 58 a.1) (λ b.
-    then (fixed_of b.1) (λ c.
-    then (numeral 65535 a.0) (λ index.
-    then (kind_named b.0) (λ kind.
-    then (word_of c.0) (λ text.
-    Some (record { index = index; kind = kind; text = text; fixed = c.1 })))))))
+    then (three_of word) (λ p.
+    then (fixed_of p.2) (λ t.
+    then (numeral 65535 p.0) (λ index.
+    then (kind_named p.1) (λ kind.
+    then (word_of t.0) (λ text.
+    Some (record { index = index; kind = kind; text = text; fixed = t.1 }))))))
 
 abbrev pub item : ItemWord → Item
 item w = record { index = w.index; kind = w.kind; text = vec_items w.text; fixed = w.fixed }
@@ -64,12 +67,11 @@ pub record Star : Type 0 where
 
 abbrev pub star_of : List ℕ → Option Star
 star_of word =
-    then (cut_at 58 word) (λ a.
-    then (cut_at 58 a.1) (λ b.
-    then (value_read K.In b.0) (λ ascension.
-    then (value_read K.In b.1) (λ declination.
-    then (word_of a.0) (λ name.
-    Some (record { name = name; ascension = ascension; declination = declination }))))))
+    then (three_of word) (λ p.
+    then (value_read K.In p.1) (λ ascension.
+    then (value_read K.In p.2) (λ declination.
+    then (word_of p.0) (λ name.
+    Some (record { name = name; ascension = ascension; declination = declination })))))
 
 abbrev pub star : StarWord → Star
 star w = record { name = vec_items w.name; ascension = whole w.ascension; declination = whole w.declination }

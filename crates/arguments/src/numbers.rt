@@ -73,11 +73,9 @@ pub fn read_angle(word: &[u8]) -> Result<i32, Trouble>
 }
 
 /// A type of values.
+#[tactic(auto, using(crate::proofs::Types::no_type))]
 pub fn read_kind(word: &[u8]) -> Result<Kind, Trouble>
     ensures { result ≡ ok_or (kind_named word.now) NotUnderstood }
 {
-    match from_utf8(word) {
-        Ok(text) => Kind::named(text).ok_or(Trouble::NotUnderstood),
-        Err(_) => Err(Trouble::NotUnderstood),
-    }
+    Ok(from_utf8(word)?.parse()?)
 }

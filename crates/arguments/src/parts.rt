@@ -1,10 +1,8 @@
 //! Words of several parts.
 ghost use Rattle.std.specs.Prelude.{◌≡◌};
-ghost use Rattle.std.specs.Option.{ok_or};
-ghost use Rattle.std.specs.Result.{result_map_both};
-ghost use Rattle.arguments.specs.Parts.{cut_at, fixed_of, item_of, item, star_of, star, change_of, change};
+ghost use Rattle.std.specs.Option.{option_map};
+ghost use Rattle.arguments.specs.Parts.{cut_at, three_of, fixed_of, item_of, item, star_of, star, change_of, change};
 ghost use Rattle.notation.specs.Readings.{Understood};
-ghost use Rattle.notation.specs.declared.trouble.Trouble.TheVariants.{NotUnderstood};
 
 use crate::numbers::{read_angle, read_index, read_kind};
 use notation::strings::decode;
@@ -36,29 +34,31 @@ pub struct ChangeWord {
     pub text: Vec<u8>,
 }
 
-/// What stands before and behind the first `mark`.
-fn cut(word: &[u8], mark: u8) -> Result<(&[u8], &[u8]), Trouble>
-    ensures { result_map_both (λ p. (p.0.now, p.1.now)) (λ e. e) result ≡ ok_or (cut_at mark word.now) NotUnderstood }
+/// What stands before and behind the first `mark`, if there is one.
+fn cut(word: &[u8], mark: u8) -> Option<(&[u8], &[u8])>
+    ensures { option_map (λ p. (p.0.now, p.1.now)) result ≡ cut_at mark word.now }
 {
-    for (i, b) in word.iter().enumerate() {
-        if *b == mark {
-            return Ok((&word[0..i], &word[i + 1..]));
-        }
-    }
-    Err(Trouble::NotUnderstood)
+    let at = word.iter().position(|b| *b == mark)?;
+    Some((&word[..at], &word[at + 1..]))
+}
+
+/// What stands before the first colon, between it and the second, and behind that.
+fn three_parts(word: &[u8]) -> Option<(&[u8], &[u8], &[u8])>
+    ensures { option_map (λ p. (p.0.now, p.1.now, p.2.now)) result ≡ three_of word.now }
+{
+    let (first, rest) = cut(word, b':')?;
+    let (second, third) = cut(rest, b':')?;
+    Some((first, second, third))
 }
 
 /// A text, and whether the word `fixed` stands behind it.
-fn fixed_text(word: &[u8]) -> Result<(&[u8], bool), Trouble>
-    ensures { result_map_both (λ p. (p.0.now, p.1)) (λ e. e) result ≡ ok_or (fixed_of word.now) NotUnderstood }
+fn fixed_text(word: &[u8]) -> Option<(&[u8], bool)>
+    ensures { option_map (λ p. (p.0.now, p.1)) result ≡ fixed_of word.now }
 {
-    let Ok((text, mark)) = cut(word, b':') else {
-        return Ok((word, false));
-    };
-    if mark == b"fixed".as_slice() {
-        Ok((text, true))
-    } else {
-        Err(Trouble::NotUnderstood)
+    match cut(word, b':') {
+        None => Some((word, false)),
+        Some((text, b"fixed")) => Some((text, true)),
+        Some(_) => None,
     }
 }
 
@@ -66,16 +66,12 @@ fn fixed_text(word: &[u8]) -> Result<(&[u8], bool), Trouble>
 pub fn read_item(heap: Global, word: &[u8]) -> Result<ItemWord, Trouble>
     ensures { Understood item (item_of word.now) result }
 {
-    let (index, rest) = cut(word, b':')?;
-    let (kind, rest) = cut(rest, b':')?;
-    let (text, fixed) = fixed_text(rest)?;
-    let index = read_index(index)?;
-    let kind = read_kind(kind)?;
-    let text = decode(heap, text)?;
+    let (index, kind, rest) = three_parts(word).ok_or(Trouble::NotUnderstood)?;
+    let (text, fixed) = fixed_text(rest).ok_or(Trouble::NotUnderstood)?;
     Ok(ItemWord {
-        index,
-        kind,
-        text,
+        index: read_index(index)?,
+        kind: read_kind(kind)?,
+        text: decode(heap, text)?,
         fixed,
     })
 }
@@ -84,15 +80,11 @@ pub fn read_item(heap: Global, word: &[u8]) -> Result<ItemWord, Trouble>
 pub fn read_star(heap: Global, word: &[u8]) -> Result<StarWord, Trouble>
     ensures { Understood star (star_of word.now) result }
 {
-    let (name, angles) = cut(word, b':')?;
-    let (ascension, declination) = cut(angles, b':')?;
-    let ascension = read_angle(ascension)?;
-    let declination = read_angle(declination)?;
-    let name = decode(heap, name)?;
+    let (name, ascension, declination) = three_parts(word).ok_or(Trouble::NotUnderstood)?;
     Ok(StarWord {
-        name,
-        ascension,
-        declination,
+        ascension: read_angle(ascension)?,
+        declination: read_angle(declination)?,
+        name: decode(heap, name)?,
     })
 }
 
@@ -100,8 +92,9 @@ pub fn read_star(heap: Global, word: &[u8]) -> Result<StarWord, Trouble>
 pub fn read_change(heap: Global, word: &[u8]) -> Result<ChangeWord, Trouble>
     ensures { Understood change (change_of word.now) result }
 {
-    let (index, text) = cut(word, b'=')?;
-    let index = read_index(index)?;
-    let text = decode(heap, text)?;
-    Ok(ChangeWord { index, text })
+    let (index, text) = cut(word, b'=').ok_or(Trouble::NotUnderstood)?;
+    Ok(ChangeWord {
+        index: read_index(index)?,
+        text: decode(heap, text)?,
+    })
 }

@@ -1,8 +1,10 @@
 //! Why a command gets no answer of its own.
 ghost use Rattle.std.specs.Prelude.{◌≡◌};
-ghost use Rattle.notation.specs.declared.trouble.Trouble.TheVariants.{NoMemory};
+ghost use Rattle.notation.specs.declared.trouble.Trouble.TheVariants.{NotUnderstood, NoMemory};
 
+use protocol::unknown::Unknown;
 use std::alloc::{AllocError, AllocFailed};
+use std::str::Utf8Error;
 
 /// What keeps a command from being carried out.
 #[derive(Clone, Copy, Debug, PartialEq, Eq)]
@@ -26,5 +28,21 @@ impl<T: Drop> From<AllocFailed<T>> for Trouble {
 
     fn from(_e: AllocFailed<T>) -> Trouble {
         Trouble::NoMemory
+    }
+}
+
+impl From<Unknown> for Trouble {
+    ghost from_gives = { λ _ r. r ≡ NotUnderstood };
+
+    fn from(_e: Unknown) -> Trouble {
+        Trouble::NotUnderstood
+    }
+}
+
+impl From<Utf8Error> for Trouble {
+    ghost from_gives = { λ _ r. r ≡ NotUnderstood };
+
+    fn from(_e: Utf8Error) -> Trouble {
+        Trouble::NotUnderstood
     }
 }

@@ -1,11 +1,21 @@
-use Rattle.std.proofs.Common.{sym, ap, arith}
-use Rattle.std.specs.Option.{ok_or}
-use Rattle.notation.specs.declared.trouble.Trouble.TheVariants.{NotUnderstood}
+use Rattle.std.proofs.Common.{◌≡◌, ◌≢◌, sym, rules, tests, arith}
+use Rattle.std.proofs.lemmas.Iterator.{YieldsList-from_slice, IsFirst-from_position}
+use Rattle.std.proofs.lemmas.Option.{MatchOption-at_some, MatchOption-at_none}
 use Rattle.arguments.proofs.Cuts.{cut_none, cut_some}
 use Rattle.arguments.proofs.parts.cut.Goals as goal
 
-pub returns-then-b-mark : goal.returns-then-b-mark
-returns-then-b-mark c = sym (ap (λ o. ok_or o NotUnderstood) (cut_some c.args.mark c.args.word.now c.loop-i.i (omega arith) c.loop-i.invariant c.if-b-mark.true))
+pub returns-in_err-at : goal.returns-in_err-at
+returns-in_err-at c =
+    let mark = c.args.mark in
+    let word = c.args.word.now in
+    let first = IsFirst-from_position _ _ c.position.result (λ b. b ≡ mark) (λ b. b ≢ mark) c.position.ensures.ran (YieldsList-from_slice word cc) (λ x q k. search (rules, tests)) (λ x q k. search (rules, tests)) in
+    let none = MatchOption-at_none _ _ c.in_err-at.was first in
+    rw c.from_residual.ensures (sym (cut_none mark word (λ k l. none k 0 (omega arith) l)))
 
 pub returns : goal.returns
-returns c = sym (ap (λ o. ok_or o NotUnderstood) (cut_none c.args.mark c.args.word.now (λ k l. c.loop-i.invariant k (omega arith))))
+returns c =
+    let mark = c.args.mark in
+    let word = c.args.word.now in
+    let first = IsFirst-from_position _ _ c.position.result (λ b. b ≡ mark) (λ b. b ≢ mark) c.position.ensures.ran (YieldsList-from_slice word cc) (λ x q k. search (rules, tests)) (λ x q k. search (rules, tests)) in
+    let some = MatchOption-at_some _ _ c.in_ok-at.at c.in_ok-at.was first in
+    sym (cut_some mark word c.in_ok-at.at some.0 (λ k l. some.2 k 0 (omega arith) l) (some.1 0))

@@ -1,29 +1,31 @@
-use Rattle.std.proofs.Common.{w32, SFits, rules}
+use Rattle.std.proofs.Common.{◌≡◌, Some, w32, SFits, rules, arith}
 use Rattle.std.proofs.lemmas.Int.{to_z-of_z}
-use Rattle.arguments.specs.Parts.{star}
-use Rattle.arguments.proofs.Cuts.{is_some, is_none, passed_none, passed_bytes, star_parts}
+use Rattle.arguments.specs.Parts.{three_of, star}
+use Rattle.arguments.proofs.Cuts.{passed, no_bytes, no_ascension, no_declination, star_named}
 use Rattle.arguments.proofs.parts.read_star.Goals as goal
 
-pub returns-in_err-ascension-2 : goal.returns-in_err-ascension-2
-returns-in_err-ascension-2 c =
-    let n = is_none _ _ _ c.in_err-ascension-2.ensures in
-    passed_none star _ _ _ c.from_residual-in_err-ascension-2.ensures.1
-    (rw (is_some _ _ _ c.in_ok-name.ensures, is_some _ _ _ c.in_ok-ascension.ensures, n))
+pub returns-in_err-read_angle : goal.returns-in_err-read_angle
+returns-in_err-read_angle c =
+    let parts : three_of c.args.word.now ≡ Some (c.in_ok-name.name.now, c.in_ok-name.ascension.now, c.in_ok-name.declination.now) = grind arith in
+    passed star _ _ _ c.from_residual-in_err-read_angle.ensures.1
+    (λ _. no_ascension c.args.word.now parts c.in_err-read_angle.field-0.0 c.in_err-read_angle.ensures)
 
-pub returns-in_err-declination : goal.returns-in_err-declination
-returns-in_err-declination c =
-    let n = is_none _ _ _ c.in_err-declination.ensures in
-    passed_none star _ _ _ c.from_residual-in_err-declination.ensures.1
-    (rw (is_some _ _ _ c.in_ok-name.ensures, is_some _ _ _ c.in_ok-ascension.ensures, is_some _ _ _ c.in_ok-ascension-2.ensures, n))
+pub returns-in_err-read_angle-2 : goal.returns-in_err-read_angle-2
+returns-in_err-read_angle-2 c =
+    let parts : three_of c.args.word.now ≡ Some (c.in_ok-name.name.now, c.in_ok-name.ascension.now, c.in_ok-name.declination.now) = grind arith in
+    passed star _ _ _ c.from_residual-in_err-read_angle-2.ensures.1
+    (λ _. no_declination c.args.word.now parts c.in_err-read_angle-2.field-0.0 c.in_ok-read_angle.ensures c.in_err-read_angle-2.ensures)
 
-pub returns-in_err-name-2 : goal.returns-in_err-name-2
-returns-in_err-name-2 c =
-    passed_bytes star _ _ _ _ c.from_residual-in_err-name-2.ensures.1 c.in_err-name-2.ensures
-    (star_parts c.args.word.now _ c.in_ok-name.ensures c.in_ok-ascension.ensures c.in_ok-ascension-2.ensures c.in_ok-declination.ensures)
+pub returns-in_err-decode : goal.returns-in_err-decode
+returns-in_err-decode c =
+    let parts : three_of c.args.word.now ≡ Some (c.in_ok-name.name.now, c.in_ok-name.ascension.now, c.in_ok-name.declination.now) = grind arith in
+    passed star _ _ _ c.from_residual-in_err-decode.ensures.1
+    (λ n. rw (star_named c.args.word.now parts c.in_ok-read_angle.ensures c.in_ok-read_angle-2.ensures, no_bytes _ _ c.in_err-decode.ensures.taken n))
 
 pub returns : goal.returns
 returns c =
-    let f : SFits w32 c.in_ok-ascension-2.ascension = search rules in
-    let g : SFits w32 c.in_ok-declination.declination = search rules in
+    let parts : three_of c.args.word.now ≡ Some (c.in_ok-name.name.now, c.in_ok-name.ascension.now, c.in_ok-name.declination.now) = grind arith in
+    let f : SFits w32 c.in_ok-read_angle.field-0 = search rules in
+    let g : SFits w32 c.in_ok-read_angle-2.field-0 = search rules in
     simp to_z-of_z
-    (star_parts c.args.word.now _ c.in_ok-name.ensures c.in_ok-ascension.ensures c.in_ok-ascension-2.ensures c.in_ok-declination.ensures c.in_ok-name-2.ensures)
+    (rw (star_named c.args.word.now parts c.in_ok-read_angle.ensures c.in_ok-read_angle-2.ensures, c.in_ok-decode.ensures.taken))
