@@ -1,2 +1,2 @@
-pub mod Added
+pub mod Words
 pub mod Lines

@@ -1,56 +1,68 @@
-//! Telling what a packet says.
-ghost use Rattle.std.specs.Prelude.{◌≡◌};
+//! What a packet says.
+ghost use Rattle.std.specs.Prelude.{◌≡◌, Some};
 ghost use Rattle.packet.specs.Packets.{content_of, message_of};
-ghost use Rattle.telling.specs.Added.{Added};
 ghost use Rattle.telling.specs.Lines.{direction_name, command_name, group_words, packet_line};
 
-use crate::groups::{tell_changes, tell_codes, tell_indices, tell_number, tell_readings};
+use crate::groups::{Change, CodeWords, ReadingWords};
+use crate::words::write_words;
 use field::words::{Command, Direction};
 use packet::packet::{Body, Packet};
-use std::alloc::AllocError;
+use std::fmt;
 
-/// The name of a direction, which begins a line.
-fn direction_name(direction: Direction) -> &'static [u8]
+/// The groups of a packet, each as one more word of a line.
+#[derive(Clone, Copy)]
+struct GroupWords<'a>(Body<'a>);
+
+/// What a packet says, as a line: request or answer, its version, number and command, and its groups.
+#[derive(Clone, Copy)]
+pub struct PacketLine<'a>(pub &'a Packet<'a>);
+
+/// The name of a direction.
+fn direction_name(direction: Direction) -> &'static str
     ensures { result.now ≡ direction_name direction }
 {
     match direction {
-        Direction::Request => b"request ",
-        Direction::Answer => b"answer ",
+        Direction::Request => "request",
+        Direction::Answer => "answer",
     }
 }
 
-/// The name of a command, as one more word of a line.
-fn command_name(command: Command) -> &'static [u8]
+/// The name of a command.
+fn command_name(command: Command) -> &'static str
     ensures { result.now ≡ command_name command }
 {
     match command {
-        Command::Read => b" read",
-        Command::Write => b" write",
-        Command::Discovery => b" discovery",
+        Command::Read => "read",
+        Command::Write => "write",
+        Command::Discovery => "discovery",
     }
 }
 
-/// Tells the groups of a packet.
-fn tell_groups(body: Body<'_>, out: &mut Vec<u8>) -> Result<(), AllocError>
-    ensures { Added out.old.items (group_words (content_of body.entry)) out.new.items result }
-{
-    match body {
-        Body::ReadRequest(indices) => tell_indices(indices, out),
-        Body::WriteRequest(writes) => tell_changes(writes, out),
-        Body::DiscoveryRequest => Ok(()),
-        Body::ReadAnswer(readings) => tell_readings(readings, out),
-        Body::WriteAnswer(codes) => tell_codes(codes, out),
-        Body::DiscoveryAnswer(readings) => tell_readings(readings, out),
+impl fmt::Display for GroupWords<'_> {
+    ghost output = { λ g. Some (group_words (content_of g.0)) };
+
+    fn fmt<W: fmt::Write>(&self, f: &mut fmt::Formatter<W>) -> fmt::Result {
+        match self.0 {
+            Body::ReadRequest(indices) => write_words(f, indices),
+            Body::WriteRequest(writes) => write_words(f, writes.map(Change)),
+            Body::DiscoveryRequest => Ok(()),
+            Body::ReadAnswer(readings) => ReadingWords(readings).fmt(f),
+            Body::WriteAnswer(codes) => CodeWords(codes).fmt(f),
+            Body::DiscoveryAnswer(readings) => ReadingWords(readings).fmt(f),
+        }
     }
 }
 
-/// Tells what a packet says.
-pub fn tell_packet(packet: &Packet<'_>, out: &mut Vec<u8>) -> Result<(), AllocError>
-    ensures { Added out.old.items (packet_line (message_of packet.now)) out.new.items result }
-{
-    out.extend_from_slice(direction_name(packet.direction()))?;
-    out.extend_from_slice(packet.version.word().as_bytes())?;
-    tell_number(u64::from(packet.number), out)?;
-    out.extend_from_slice(command_name(packet.command()))?;
-    tell_groups(packet.body, out)
+impl fmt::Display for PacketLine<'_> {
+    ghost output = { λ p. Some (packet_line (message_of p.0.now)) };
+
+    fn fmt<W: fmt::Write>(&self, f: &mut fmt::Formatter<W>) -> fmt::Result {
+        let packet = self.0;
+        let direction = direction_name(packet.direction());
+        let version = packet.version.word();
+        let number = packet.number;
+        let command = command_name(packet.command());
+        let groups = GroupWords(packet.body);
+        write!(f, "{direction} {version} {number} {command}{groups}")
+    }
 }
