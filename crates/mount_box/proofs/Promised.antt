@@ -32,7 +32,7 @@ ok_same : {X E : Type 0} (x y : X) → ◌≡◌ {A = Result X E} (Ok x) (Ok y) 
 ok_same x y e = cc
 
 no_place : {X : Type 0} (reason : Refusal) (x : X) → Err reason ≡ Ok x → ⊥
-no_place reason x e = let z : ◌≡◌ {A = ℕ} 0 1 = cc in omega arith
+no_place reason x e = cc
 
 -- a packet says one thing
 same_message : (packet : List ℕ) (m n : Message) → packet_of packet ≡ Ok m → packet_of packet ≡ Ok n → m ≡ n
@@ -44,7 +44,7 @@ not_both packet m n p q o d = subst Orders (ap (λ x. x.content) (same_message p
 
 -- a request is due or a repeat
 not_due : (records : List _) (sender : ℕ) (m n : Message) (j k : ℕ) → m ≡ n → standing records sender m.number ≡ Ok (due j) → standing records sender n.number ≡ Ok (repeated k) → ⊥
-not_due records sender m n j k s p q = let e : standing records sender m.number ≡ standing records sender n.number = ap (λ x. standing records sender x.number) s in let z : ◌≡◌ {A = ℕ} 0 1 = cc in omega arith
+not_due records sender m n j k s p q = let e : standing records sender m.number ≡ standing records sender n.number = ap (λ x. standing records sender x.number) s in cc
 
 -- by its standing goes a read or a write
 orders_by : (b : Box) (sender : ℕ) (m : Message) (content : Content) → Orders content → by_content b sender m content ≡ by_standing b sender m (standing b.records sender m.number)
