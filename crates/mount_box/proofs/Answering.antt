@@ -53,7 +53,7 @@ shown_told c i r e = told_as r ∙ ap Tells e ∙ shown_tells c i
 
 all_shown : (c : Contents) (rs : List (Result Value Code)) (is : List ℕ) → map readout_of rs ≡ map (shown c) is → all_told rs ≡ true
 all_shown c [] is e = refl
-all_shown c (r ∷ rs) [] e = let z : ◌≡◌ {A = ℕ} 0 1 = cc in absurd (omega arith)
+all_shown c (r ∷ rs) [] e = absurd cc
 all_shown c (r ∷ rs) (i ∷ is) e =
     let p : readout_of r ≡ shown c i = cc in
     let q : map readout_of rs ≡ map (shown c) is = cc in
@@ -123,8 +123,8 @@ received_counted m xs p e =
 -- Discovery is asked in version 1.1 alone
 modern : (v : Version) (command : Command) → Goes v command → command ≡ Discovery → v ≡ V11
 modern V11 command g e = refl
-modern V10 Read g e = let z : ◌≡◌ {A = ℕ} 0 1 = cc in absurd (omega arith)
-modern V10 Write g e = let z : ◌≡◌ {A = ℕ} 0 1 = cc in absurd (omega arith)
+modern V10 Read g e = absurd cc
+modern V10 Write g e = absurd cc
 modern V10 Discovery g e = absurd g
 
 pub discovery_carries : (c : Contents) (m : Message) (r : Result ℕ Refusal) (before after : List ℕ) → Received m → m.content ≡ discovery_request → Answers (answered V11 m.number (who c)) r before after → Carries c m r before after

@@ -93,11 +93,11 @@ module _ (records : List (Option SenderRecord)) (sender number : ℕ) where
     due_for k e = split (ltb mine 16) (eqb number (newest_of (get_or records mine blank))) (ltb number (newest_of (get_or records mine blank))) (ltb free 16) refl refl e
       where
         split : (a b c d : Bool) → ltb mine 16 ≡ a → ltb free 16 ≡ d → by_tests a b c d ≡ Ok (due k) → DueFor k
-        split true true c d s t q = let z : ◌≡◌ {A = ℕ} 0 1 = cc in absurd (omega arith)
-        split true false true d s t q = let z : ◌≡◌ {A = ℕ} 0 1 = cc in absurd (omega arith)
+        split true true c d s t q = absurd cc
+        split true false true d s t q = absurd cc
         split true false false d s t q = let r : mine ≡ k = cc in subst DueFor r (due_mine s)
         split false b c true s t q = let r : free ≡ k = cc in subst DueFor r (due_free s t)
-        split false b c false s t q = let z : ◌≡◌ {A = ℕ} 0 1 = cc in absurd (omega arith)
+        split false b c false s t q = absurd cc
 
     pub known_by : (k : ℕ) → standing records sender number ≡ Ok (repeated k) → KnownBy k
     known_by k e = split (ltb mine 16) (eqb number (newest_of (get_or records mine blank))) (ltb number (newest_of (get_or records mine blank))) (ltb free 16) refl refl e
@@ -107,10 +107,10 @@ module _ (records : List (Option SenderRecord)) (sender number : ℕ) where
             let r : mine ≡ k = cc in
             let h : mine < 16 = ltb-true mine 16 s in
             subst KnownBy r (record { inside = h; own = first_at (is_of sender) records blank (omega arith); newest = sym (eqb-true number (newest_of (get_or records mine blank)) t) })
-        split true false true d s t q = let z : ◌≡◌ {A = ℕ} 0 1 = cc in absurd (omega arith)
-        split true false false d s t q = let z : ◌≡◌ {A = ℕ} 0 1 = cc in absurd (omega arith)
-        split false b c true s t q = let z : ◌≡◌ {A = ℕ} 0 1 = cc in absurd (omega arith)
-        split false b c false s t q = let z : ◌≡◌ {A = ℕ} 0 1 = cc in absurd (omega arith)
+        split true false true d s t q = absurd cc
+        split true false false d s t q = absurd cc
+        split false b c true s t q = absurd cc
+        split false b c false s t q = absurd cc
 
     -- once it is noted, the number stands as a repeat
     pub noted_again : (k n : ℕ) → DueFor k → standing (set records k (noted sender number n)) sender number ≡ Ok (repeated k)

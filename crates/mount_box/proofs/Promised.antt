@@ -28,15 +28,9 @@ use Rattle.mount_box.proofs.Replies.{reply_back, reply_size}
 use Rattle.mount_box.proofs.Served.{handled_long, orders_ask}
 use Rattle.mount_box.proofs.Ways.{Handles, handles, stopped, again, done, told}
 
-ok_same : {X E : Type 0} (x y : X) → ◌≡◌ {A = Result X E} (Ok x) (Ok y) → x ≡ y
-ok_same x y e = cc
-
-no_place : {X : Type 0} (reason : Refusal) (x : X) → Err reason ≡ Ok x → ⊥
-no_place reason x e = let z : ◌≡◌ {A = ℕ} 0 1 = cc in omega arith
-
 -- a packet says one thing
 same_message : (packet : List ℕ) (m n : Message) → packet_of packet ≡ Ok m → packet_of packet ≡ Ok n → m ≡ n
-same_message packet m n p q = ok_same m n (sym p ∙ q)
+same_message packet m n p q = cc
 
 -- Discovery is no read and no write
 not_both : (packet : List ℕ) (m n : Message) → packet_of packet ≡ Ok m → packet_of packet ≡ Ok n → Orders m.content → n.content ≡ discovery_request → ⊥
@@ -44,7 +38,7 @@ not_both packet m n p q o d = subst Orders (ap (λ x. x.content) (same_message p
 
 -- a request is due or a repeat
 not_due : (records : List _) (sender : ℕ) (m n : Message) (j k : ℕ) → m ≡ n → standing records sender m.number ≡ Ok (due j) → standing records sender n.number ≡ Ok (repeated k) → ⊥
-not_due records sender m n j k s p q = let e : standing records sender m.number ≡ standing records sender n.number = ap (λ x. standing records sender x.number) s in let z : ◌≡◌ {A = ℕ} 0 1 = cc in omega arith
+not_due records sender m n j k s p q = let e : standing records sender m.number ≡ standing records sender n.number = ap (λ x. standing records sender x.number) s in cc
 
 -- by its standing goes a read or a write
 orders_by : (b : Box) (sender : ℕ) (m : Message) (content : Content) → Orders content → by_content b sender m content ≡ by_standing b sender m (standing b.records sender m.number)
@@ -94,7 +88,7 @@ fits b packet m sound s p ask =
 
 module _ (b : Box) (sender : ℕ) (packet : List ℕ) (sound : Sound b.contents) (sixteen : length b.records ≡ 16) where
   pub repeats : (h : Handling) → Handles b sender packet h → Repeats sender packet h
-  repeats h (stopped reason) m n place q p o a r u e = absurd (no_place reason place a)
+  repeats h (stopped reason) m n place q p o a r u e = absurd cc
   repeats h (told w s t d) m n place q p o a r u e = absurd (not_both packet m w p t o d)
   repeats h (again w k s t v st) m n place q p o a r u e =
       repeat_kept b sender k q n s r u (ap (standing b.records sender) (e ∙ ap (λ x. x.number) (same_message packet m w p t)) ∙ st)
@@ -147,7 +141,7 @@ module _ (b : Box) (sender : ℕ) (packet : List ℕ) (sound : Sound b.contents)
   reads_slab w k place s t v st a =
       let f = fits b packet w sound s t (orders_ask w.content v) in
       let d = due_for b.records sender w.number sixteen k st in
-      let same = ok_same (Slab (512 * k) (length (reply_bytes b w))) place a in
+      let same : Slab (512 * k) (length (reply_bytes b w)) ≡ place = cc in
       record {
         bytes = reply_bytes b w;
         part = ap (λ x. part_of x (rowed b.slab k (reply_bytes b w)) b.reply) (sym same) ∙ piece_put b.slab (reply_bytes b w) (512 * k) (f.in_row k d.inside);
@@ -158,7 +152,7 @@ module _ (b : Box) (sender : ℕ) (packet : List ℕ) (sound : Sound b.contents)
   reads_reply : (w : Message) (place : Place) → short b ≡ false → packet_of packet ≡ Ok w → w.content ≡ discovery_request → (discovered b (reply_bytes b w)).answer ≡ Ok place → ReadsAt place (discovered b (reply_bytes b w)).after (reply_to b.contents w)
   reads_reply w place s t d a =
       let f = fits b packet w sound s t (ap direction_of d) in
-      let same = ok_same (Reply (length (reply_bytes b w))) place a in
+      let same : Reply (length (reply_bytes b w)) ≡ place = cc in
       record {
         bytes = reply_bytes b w;
         part = ap (λ x. part_of x b.slab (put_at b.reply 0 (reply_bytes b w))) (sym same) ∙ piece_put b.reply (reply_bytes b w) 0 f.in_reply;
@@ -167,14 +161,14 @@ module _ (b : Box) (sender : ℕ) (packet : List ℕ) (sound : Sound b.contents)
       }
 
   back_carried : (h : Handling) → Handles b sender packet h → (m : Message) (k : ℕ) (place : Place) → packet_of packet ≡ Ok m → Orders m.content → standing b.records sender m.number ≡ Ok (due k) → h.answer ≡ Ok place → ReadsAt place h.after (reply_to b.contents m)
-  back_carried h (stopped reason) m k place p o e a = absurd (no_place reason place a)
+  back_carried h (stopped reason) m k place p o e a = absurd cc
   back_carried h (told w s t d) m k place p o e a = absurd (not_both packet m w p t o d)
   back_carried h (again w j s t v st) m k place p o e a = absurd (not_due b.records sender m w k j (same_message packet m w p t) e st)
   back_carried h (done w j s t v st) m k place p o e a =
       subst (λ x. ReadsAt place (carried b sender w j (reply_bytes b w)).after (reply_to b.contents x)) (same_message packet w m t p) (reads_slab w j place s t v st a)
 
   back_discovered : (h : Handling) → Handles b sender packet h → (m : Message) (place : Place) → packet_of packet ≡ Ok m → m.content ≡ discovery_request → h.answer ≡ Ok place → ReadsAt place h.after (reply_to b.contents m)
-  back_discovered h (stopped reason) m place p c a = absurd (no_place reason place a)
+  back_discovered h (stopped reason) m place p c a = absurd cc
   back_discovered h (told w s t d) m place p c a =
       subst (λ x. ReadsAt place (discovered b (reply_bytes b w)).after (reply_to b.contents x)) (same_message packet w m t p) (reads_reply w place s t d a)
   back_discovered h (again w j s t v st) m place p c a = absurd (not_both packet w m t p v c)
@@ -184,13 +178,15 @@ module _ (b : Box) (sender : ℕ) (packet : List ℕ) (sound : Sound b.contents)
   backs h w = record { carried = back_carried h w; discovered = back_discovered h w }
 
   pub groups : (h : Handling) → Handles b sender packet h → Groups b sender packet h
-  groups h (stopped reason) m answer k place bytes p o e a part q = absurd (no_place reason place a)
+  groups h (stopped reason) m answer k place bytes p o e a part q = absurd cc
   groups h (told w s t d) m answer k place bytes p o e a part q = absurd (not_both packet m w p t o d)
   groups h (again w j s t v st) m answer k place bytes p o e a part q = absurd (not_due b.records sender m w k j (same_message packet m w p t) e st)
   groups h (done w j s t v st) m answer k place bytes p o e a part q =
       let r = reads_slab w j place s t v st a in
-      let same : bytes ≡ r.bytes = ok_same bytes r.bytes (sym part ∙ r.part) in
-      let is : answer ≡ reply_to b.contents w = ok_same answer (reply_to b.contents w) (sym q ∙ ap packet_of same ∙ r.read) in
+      let at = r.part in
+      let same : bytes ≡ r.bytes = cc in
+      let read = r.read in
+      let is : answer ≡ reply_to b.contents w = cc in
       subst (λ x. Groupwise b.contents x.content answer.content (left_by b.contents w.content)) (same_message packet w m t p)
       (subst (λ x. Groupwise b.contents w.content x.content (left_by b.contents w.content)) (sym is) (groupwise b.contents w.content))
 
@@ -227,9 +223,9 @@ refused_so b sender packet r reason g e =
     subst (λ x. outcome x b ≡ handled b sender packet → Promises b sender packet (outcome x b)) (sym g)
     (λ q. record {
       handled = q;
-      repeat = λ m n place again p o a r u i. absurd (no_place reason place a);
-      groups = λ m answer k place bytes p o i a part r. absurd (no_place reason place a);
+      repeat = λ m n place again p o a r u i. absurd cc;
+      groups = λ m answer k place bytes p o i a part r. absurd cc;
       others = refl;
-      back = record { carried = λ m k place p o i a. absurd (no_place reason place a); discovered = λ m place p d a. absurd (no_place reason place a) };
+      back = record { carried = λ m k place p o i a. absurd cc; discovered = λ m place p d a. absurd cc };
     })
     e

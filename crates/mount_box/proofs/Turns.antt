@@ -28,7 +28,7 @@ read_shown c i (Err code) e = ap lacking (sym (coded_back code)) ∙ ap (λ x. s
 
 -- the first of a list, and the others
 pub first_some : {X : Type 0} (xs ys : List X) (x : X) → Some x ≡ first xs → ys ≡ drop 1 xs → xs ≡ x ∷ ys
-first_some [] ys x e d = let z : ◌≡◌ {A = ℕ} 0 1 = cc in absurd (omega arith)
+first_some [] ys x e d = absurd cc
 first_some (y ∷ xs) ys x e d = cc
 
 -- one more, stored at its place
