@@ -1,14 +1,13 @@
 -- Sizes of decimals, compared by 18 digits and a power of ten.
-use Rattle.std.proofs.Common.{◌≡◌, ℕ, suc, ◌+◌, ◌-◌, ◌*◌, ◌^◌, ◌<◌, ◌≤◌, true, leb, ℤ, pos, negsuc, ◌+ℤ◌, ◌-ℤ◌, nat_abs, ◌≤ℤ◌, Some, sym, refl, ap, ◌∙◌, inl, inr, mul-le-mul_right, mul_assoc, mul-le-mul, mul-lt-mul_of_pos_right, pow-suc, arith, pow-add, w16, SFits, to_z, of_z, ◌<ℤ◌, Ordering}
+use Rattle.std.proofs.Common.{◌≡◌, ℕ, suc, ◌+◌, ◌-◌, ◌*◌, ◌^◌, ◌<◌, ◌≤◌, true, leb, ℤ, pos, negsuc, ◌+ℤ◌, ◌-ℤ◌, nat_abs, ◌≤ℤ◌, Some, sym, refl, ap, ◌∙◌, inl, inr, mul-le-mul_right, mul_assoc, mul-le-mul, mul-lt-mul_of_pos_right, pow-suc, arith, pow-add, ◌<ℤ◌, Ordering}
 use native.Mathlib.Nat.{pow-le-pow_right, one-le-pow}
-use Rattle.std.proofs.lemmas.Int.{ints, to_z-of_z, by_lt_z}
+use Rattle.std.proofs.lemmas.Int.{ints, by_lt_z}
 use Rattle.std.proofs.lemmas.Bool.{cases_lt, cases_eq, le-leb, lt-leb, leb-true}
 use Rattle.std.specs.Cmp.{nat_cmp_is, int_cmp_is}
 use Rattle.std.specs.Ordering.{is_le, is_some_and, nat_cmp, int_cmp, partial_ordering_then}
 use Rattle.std.specs.declared.cmp.Ordering.TheVariants.{Less, Equal, Greater}
 use Rattle.decimal.specs.declared.real.Real.{Real}
 use Rattle.decimal.specs.Range.{above, at_most, size_of}
-use Rattle.decimal.proofs.Reals.{fits16}
 
 pub lower : (x y p q : ℕ) → x < 10 ^ 18 → 10 ^ 17 ≤ y → p < q → x * 10 ^ p < y * 10 ^ q
 lower x y p q a b l =
