@@ -1,4 +1,4 @@
-use Rattle.std.proofs.Common.{◌≡◌, negsuc, ◌≤ℤ◌, ◌&&◌, ◌||◌, sym, ap, ◌∙◌}
+use Rattle.std.proofs.Common.{negsuc, ◌≤ℤ◌, ◌&&◌, ◌||◌, sym, ap, ◌∙◌}
 use Rattle.std.proofs.lemmas.Bool.{ne_eqb}
 use Rattle.decimal.specs.Range.{at_most}
 use Rattle.decimal.proofs.Sizes.{sizes, in_order, both, end_low}
