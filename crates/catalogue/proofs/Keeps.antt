@@ -1,5 +1,5 @@
 -- What is true of every catalogue lasts over each of its calls.
-use Rattle.std.proofs.Common.{◌≡◌, ℕ, ◌+◌, ◌*◌, ◌<◌, ◌≤◌, true, false, cond, leb, ◌⊎◌, List, [], ◌∷◌, ◌++◌, length, get_or, set, is_some, Some, None, sum_by, sym, refl, ap, ◌∙◌, subst, inl, inr, arith}
+use Rattle.std.proofs.Common.{◌≡◌, ℕ, ◌+◌, ◌*◌, ◌<◌, ◌≤◌, true, false, cond, leb, ◌⊎◌, List, [], ◌∷◌, ◌++◌, length, get_or, set, is_some, Some, sum_by, sym, refl, ap, ◌∙◌, subst, inl, inr, arith}
 use Rattle.std.proofs.ByRecursion.{All-from_get_or, sum_by_le}
 use Rattle.std.proofs.lemmas.List.{get_or-set_same, get_or-set_other, get_or_append_left, get_or_push, get_or_past, length_push, length-set, take_at}
 use Rattle.std.proofs.lemmas.List.Sums.{sum_by-cons, sum_by-set, sum_by_push}
@@ -13,7 +13,7 @@ use Rattle.catalogue.specs.Stations.{Station, timely, newcomer, freed, waiting_i
 use Rattle.catalogue.specs.Opening.{partner, count_opened}
 use Rattle.catalogue.specs.Polling.{spent, longer, with_waiting, count_repeated}
 use Rattle.catalogue.specs.Judging.{Free, asking_with, placed}
-use Rattle.catalogue.specs.Kept.{repeats_in, interval_in, numbers_of, repeats_of, settled, Fair, Kept, Sound}
+use Rattle.catalogue.specs.Kept.{repeats_in, interval_in, numbers_of, repeats_of, settled, Fair, Sound}
 
 -- one where a transaction waits
 abbrev waits : Partner → ℕ

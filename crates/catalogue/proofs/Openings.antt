@@ -10,7 +10,7 @@ use Rattle.packet.specs.Messages.{Content}
 use Rattle.writer.specs.Bytes.{bytes_of}
 use Rattle.writer.specs.Orders.{asked}
 use Rattle.writer.specs.Written.{at_start, written, ReadsBack}
-use Rattle.slab_rows.specs.Places.{piece, part_of}
+use Rattle.slab_rows.specs.Places.{piece}
 use Rattle.slab_rows.specs.Rows.{rowed}
 use Rattle.slab_rows.specs.declared.place.Place.TheVariants.{Slab}
 use Rattle.slab_rows.proofs.Written.{part_written}

@@ -1,5 +1,5 @@
 -- What the calls of a catalogue are made of: the grounds for turning one down, and the change of one partner.
-use Rattle.std.specs.Prelude.{◌≡◌, ℕ, ◌+◌, ◌<◌, ◌≤◌, Bool, true, cond, not, length, is_some, Some, None, Ok, Err, Result, nat_le, nat_lt, slice_set}
+use Rattle.std.specs.Prelude.{◌≡◌, ℕ, ◌+◌, ◌<◌, ◌≤◌, Bool, cond, not, length, is_some, Some, None, Ok, Err, Result, nat_le, nat_lt, slice_set}
 use Rattle.protocol.specs.declared.refusal.Refusal.{Refusal}
 use Rattle.protocol.specs.declared.refusal.Refusal.TheVariants.{Time, ShortMemory, Unknown, Limit, StillWaits, Exhausted}
 use Rattle.catalogue.specs.declared.partner.Partner.{Partner}

@@ -1,5 +1,5 @@
 -- What a catalogue may ask is read back as it was asked, and is short; it is a read or write request.
-use Rattle.std.proofs.Common.{◌≡◌, ℕ, ◌<◌, ◌≤◌, true, length, Ok, arith}
+use Rattle.std.proofs.Common.{◌≡◌, ℕ, ◌<◌, ◌≤◌, true, length, Ok}
 use Rattle.std.proofs.ByRecursion.{All-map}
 use Rattle.field.specs.declared.words.Command.TheVariants.{Discovery}
 use Rattle.packet.specs.Messages.{discovery_request, command_of, packet_of}

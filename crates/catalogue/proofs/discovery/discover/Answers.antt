@@ -1,4 +1,4 @@
-use Rattle.std.proofs.Common.{◌≡◌, ℕ, Bool, true, false, cond, ltb, List, ◌++◌, length, drop, Ok, Err, Result, sym, ap, ◌∙◌, arith, rules, lit<}
+use Rattle.std.proofs.Common.{◌≡◌, ℕ, Bool, true, false, cond, ltb, List, ◌++◌, length, drop, Ok, Err, Result, ap, ◌∙◌, rules, lit<}
 use Rattle.std.proofs.lemmas.Fmt.{decimal_digit}
 use Rattle.protocol.specs.declared.refusal.Refusal.{Refusal}
 use Rattle.protocol.specs.declared.refusal.Refusal.TheVariants.{ShortMemory}
@@ -8,7 +8,7 @@ use Rattle.writer.specs.Orders.{asked}
 use Rattle.writer.specs.Written.{refused, at_start}
 use Rattle.slab_rows.specs.Places.{told}
 use Rattle.slab_rows.specs.declared.place.Place.TheVariants.{Reply}
-use Rattle.catalogue.specs.Receiving.{Discovering, discovery_bytes, discovering}
+use Rattle.catalogue.specs.Receiving.{Discovering, discovery_bytes}
 use Rattle.catalogue.proofs.discovery.discover.Goals as goal
 
 -- the packet, written out

@@ -1,4 +1,4 @@
-use Rattle.std.proofs.Common.{◌≡◌, ◌<◌, true, false, [], ◌∷◌, ◌++◌, length, is_some, Ok, sym, refl, ap, ◌∙◌, subst, arith, rules}
+use Rattle.std.proofs.Common.{◌≡◌, ◌<◌, true, false, [], ◌∷◌, ◌++◌, length, is_some, Ok, sym, refl, ap, ◌∙◌, subst, rules}
 use Rattle.std.specs.List.{position}
 use Rattle.catalogue.specs.Stations.{newcomer, at_address, enlisting}
 use Rattle.catalogue.specs.Kept.{Sound}

@@ -1,4 +1,4 @@
-use Rattle.std.proofs.Common.{◌≡◌, length, Ok, sym, ◌∙◌, rules}
+use Rattle.std.proofs.Common.{◌≡◌, length, Ok, rules}
 use Rattle.catalogue.specs.Judging.{judged}
 use Rattle.catalogue.proofs.Openings.{row_lies, row_outside, row_back}
 use Rattle.catalogue.proofs.catalogue.Catalogue.open.Goals as goal

@@ -1,7 +1,7 @@
 use Rattle.std.proofs.Common.{refl, sym, ◌∙◌, arith, rules}
 use Rattle.catalogue.specs.Views.{station_of}
 use Rattle.catalogue.specs.Polling.{count_failed}
-use Rattle.catalogue.proofs.Keeps.{small, interval_small, repeats_left, sound_repeated, sound_settled}
+use Rattle.catalogue.proofs.Keeps.{small, sound_repeated, sound_settled}
 use Rattle.catalogue.proofs.catalogue.Catalogue.poll_due.Goals as goal
 
 pub overflow_add-self : goal.overflow_add-self

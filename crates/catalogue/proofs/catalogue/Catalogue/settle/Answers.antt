@@ -1,7 +1,6 @@
-use Rattle.std.proofs.Common.{◌≡◌, ◌<◌, length, Some, None, Err, sym, refl, ap, ◌∙◌, subst, arith, rules}
+use Rattle.std.proofs.Common.{◌≡◌, Some, None, sym, refl, ap, ◌∙◌, arith, rules}
 use Rattle.std.proofs.lemmas.Bool.{cond-true, cond-false}
 use Rattle.std.specs.List.{position}
-use Rattle.protocol.specs.declared.refusal.Refusal.TheVariants.{Unknown, NoMatch}
 use Rattle.packet.specs.Packets.{message_of}
 use Rattle.catalogue.specs.Stations.{freed, at_address}
 use Rattle.catalogue.specs.Opening.{partner}

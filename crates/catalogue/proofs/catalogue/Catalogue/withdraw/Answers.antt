@@ -1,5 +1,4 @@
-use Rattle.std.proofs.Common.{◌≡◌, ◌<◌, length, Some, refl, arith, rules}
-use Rattle.catalogue.specs.Opening.{partner}
+use Rattle.std.proofs.Common.{refl, arith, rules}
 use Rattle.catalogue.specs.Views.{station_of}
 use Rattle.catalogue.specs.Withdrawing.{count_withdrawn}
 use Rattle.catalogue.proofs.Keeps.{small, sound_settled}

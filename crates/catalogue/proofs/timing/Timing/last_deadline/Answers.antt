@@ -1,7 +1,6 @@
 use Rattle.std.proofs.Common.{◌+◌, ◌-◌, ◌*◌, ◌^◌, ◌<◌, ◌≤◌, sym, ap, ◌∙◌, arith}
 use Rattle.catalogue.specs.Backoff.{poll_time}
-use Rattle.catalogue.proofs.Keeps.{ranged}
-use Rattle.catalogue.proofs.Tries.{doubles, sums, next_time, silent_more, silent_done}
+use Rattle.catalogue.proofs.Tries.{doubles, next_time, silent_more, silent_done}
 use Rattle.catalogue.proofs.timing.Timing.last_deadline.Goals as goal
 
 pub loop-repeat-preserved : goal.loop-repeat-preserved
