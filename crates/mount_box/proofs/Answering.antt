@@ -5,7 +5,7 @@
 --     discovery_carries                          Discovery is answered in version 1.1
 use Rattle.std.proofs.Common.{◌≡◌, ℕ, suc, ◌≤◌, Bool, true, false, cond, not, ◌&&◌, eqb, List, [], ◌∷◌, map, length, Some, None, Ok, Err, Option, Result, sym, refl, ap, ◌∙◌, subst, ap₂, arith}
 use Rattle.std.proofs.lemmas.List.{length-map}
-use Rattle.std.proofs.lemmas.Bool.{and_from, le-ltb, le-leb}
+use Rattle.std.proofs.lemmas.Bool.{and_from, le-leb}
 use Rattle.protocol.specs.Words.{code_number}
 use Rattle.protocol.specs.declared.code.Code.{Code}
 use Rattle.protocol.specs.declared.refusal.Refusal.{Refusal}
@@ -18,9 +18,8 @@ use Rattle.packet.specs.Heads.{Goes}
 use Rattle.packet.specs.Groups.{Readout, found, lacking}
 use Rattle.packet.specs.Messages.{Message, discovery_request, read_answer, write_answer, discovery_answer, command_of, count_of}
 use Rattle.packet.proofs.Bounds.{bounded, goes}
-use Rattle.writer.specs.Bytes.{bytes_of}
 use Rattle.writer.specs.Orders.{counted, readout_of, told, all_told, readings_allowed, answered}
-use Rattle.writer.specs.Written.{written, at_start}
+use Rattle.writer.specs.Written.{written}
 use Rattle.store.specs.Contents.{Contents, Element, inside, refused, reading, read_of}
 use Rattle.store.specs.Contents as contents
 use Rattle.store.specs.Owner.{write_text_of}

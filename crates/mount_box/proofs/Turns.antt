@@ -1,7 +1,7 @@
 -- Carrying out one group more.
 --     readings_more            a read
 --     codes_more, after_more   a write
-use Rattle.std.proofs.Common.{◌≡◌, ℕ, ◌+◌, ◌<◌, List, [], ◌∷◌, ◌++◌, map, length, take, drop, set, Some, Ok, Err, Result, sym, refl, ap, ◌∙◌, ap₂, append_assoc, arith}
+use Rattle.std.proofs.Common.{◌≡◌, ℕ, ◌+◌, ◌<◌, List, [], ◌∷◌, ◌++◌, map, length, take, drop, set, Some, Ok, Err, Result, sym, refl, ap, ◌∙◌, ap₂, append_assoc}
 use Rattle.std.proofs.lemmas.List.{take_more_set, map_push}
 use Rattle.protocol.specs.Words.{code_number}
 use Rattle.protocol.specs.declared.code.Code.{Code}
