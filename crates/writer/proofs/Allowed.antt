@@ -15,7 +15,8 @@ use Rattle.field.specs.declared.words.Version.TheVariants.{V10, V11}
 use Rattle.field.specs.declared.words.Command.TheVariants.{Read, Write}
 use Rattle.packet.specs.Heads.{Goes}
 use Rattle.packet.specs.Groups.{KeptWrite, KeptReadout}
-use Rattle.packet.specs.Messages.{Message, read_request, write_request, discovery_request, read_answer, write_answer, discovery_answer}
+use Rattle.field.specs.Words.{command_number}
+use Rattle.packet.specs.Messages.{Message, Bounded, count_of, command_of, read_request, write_request, discovery_request, read_answer, write_answer, discovery_answer}
 use Rattle.packet.proofs.Bounds.{not_discovery}
 use Rattle.writer.specs.declared.change.Change.{Change}
 use Rattle.writer.specs.Orders.{counted, change_of, all_texts, changes_allowed, readout_of, told, all_told, readings_allowed, asked, answered}
@@ -39,6 +40,12 @@ use Rattle.writer.proofs.Goods.{Good, good}
 counted_few : {X : Type 0} (xs : List X) → counted xs ≡ true → (1 ≤ length xs) × (length xs ≤ 10)
 counted_few xs h = let p = and_parts (leb 1 (length xs)) (leb (length xs) 10) h in (leb-true _ _ p.0, leb-true _ _ p.1)
 
+-- 1 to 10 groups, in no Discovery
+bounded_few : {X : Type 0} (m : Message) (xs : List X) → m.number < 65536 → count_of m.content ≡ length xs → counted xs ≡ true → command_number (command_of m.content) < 3 → Bounded m
+bounded_few m xs h l some below =
+    let p = counted_few xs some in
+    record { number = h; some = omega (arith, p.0); few = omega (arith, p.1); both = not_discovery below }
+
 goes_read : (version : Version) → Goes version Read
 goes_read V10 = tt
 goes_read V11 = tt
@@ -52,17 +59,14 @@ good_ruled : (m : Message) → Ruled m → Good m
 good_ruled m r = good m r.bounded r.goes r.kept
 
 pub ruled_indices : (n : ℕ) (is : List ℕ) → n < 65536 → AllByRecursion (λ i. i < 65536) is → counted is ≡ true → Ruled (asked n (read_request is))
-ruled_indices n is h a some =
-    let p = counted_few is some in
-    record { bounded = record { number = h; some = p.0; few = p.1; both = not_discovery (omega arith) }; goes = tt; kept = a }
+ruled_indices n is h a some = record { bounded = bounded_few (asked n (read_request is)) is h refl some (omega arith); goes = tt; kept = a }
 
 pub good_indices : (n : ℕ) (is : List ℕ) → n < 65536 → AllByRecursion (λ i. i < 65536) is → counted is ≡ true → Good (asked n (read_request is))
 good_indices n is h a some = good_ruled _ (ruled_indices n is h a some)
 
 pub ruled_codes : (version : Version) (n : ℕ) (cs : List Code) → n < 65536 → counted cs ≡ true → Ruled (answered version n (write_answer cs))
 ruled_codes version n cs h some =
-    let p = counted_few cs some in
-    record { bounded = record { number = h; some = p.0; few = p.1; both = not_discovery (omega arith) }; goes = goes_write version; kept = tt }
+    record { bounded = bounded_few (answered version n (write_answer cs)) cs h refl some (omega arith); goes = goes_write version; kept = tt }
 
 -- each change is a text at an index
 change_textual : (o : Option Text) → is_some o ≡ true → textual (unwrap_or (option_map text_bytes o) []) ≡ true
@@ -78,9 +82,7 @@ kept_changes (c ∷ cs) t a =
 pub ruled_changes : (n : ℕ) (cs : List Change) → n < 65536 → AllByRecursion (λ c. c.index < 65536) cs → changes_allowed cs ≡ true → Ruled (asked n (write_request (map change_of cs)))
 ruled_changes n cs h a ok =
     let q = and_parts (counted cs) (all_texts cs) ok in
-    let p = counted_few cs q.0 in
-    let l = length-map cs change_of in
-    record { bounded = record { number = h; some = omega (arith, p.0); few = omega (arith, p.1); both = not_discovery (omega arith) }; goes = tt; kept = kept_changes cs q.1 a }
+    record { bounded = bounded_few (asked n (write_request (map change_of cs))) cs h (length-map cs change_of) q.0 (omega arith); goes = tt; kept = kept_changes cs q.1 a }
 
 unmapped : (cs : List Change) → AllByRecursion (λ w. w.0 < 65536) (map change_of cs) → AllByRecursion (λ c. c.index < 65536) cs
 unmapped [] a = tt
@@ -106,9 +108,7 @@ kept_readings (x ∷ xs) t a =
 pub ruled_readings : (version : Version) (n : ℕ) (xs : List (Result Value Code)) → n < 65536 → AllByRecursion Fitting xs → readings_allowed xs ≡ true → Ruled (answered version n (read_answer (map readout_of xs)))
 ruled_readings version n xs h a ok =
     let q = and_parts (counted xs) (all_told xs) ok in
-    let p = counted_few xs q.0 in
-    let l = length-map xs readout_of in
-    record { bounded = record { number = h; some = omega (arith, p.0); few = omega (arith, p.1); both = not_discovery (omega arith) }; goes = goes_read version; kept = kept_readings xs q.1 a }
+    record { bounded = bounded_few (answered version n (read_answer (map readout_of xs))) xs h (length-map xs readout_of) q.0 (omega arith); goes = goes_read version; kept = kept_readings xs q.1 a }
 
 pub ruled_discovered : (n : ℕ) (x y : Result Value Code) → n < 65536 → AllByRecursion Fitting (x ∷ y ∷ []) → (told x && told y) ≡ true → Ruled (answered V11 n (discovery_answer (readout_of x ∷ readout_of y ∷ [])))
 ruled_discovered n x y h a t =

@@ -10,13 +10,10 @@ use Rattle.protocol.proofs.PlainText.{utf8_decides}
 use Rattle.field.specs.Fields.{fields}
 use Rattle.field.specs.Frames.{plain, inside, framed, fields_of}
 use Rattle.field.proofs.Splits.{Free, fields_last, fields_more}
+use Rattle.packet.proofs.Pieces.{Piece}
 use Rattle.writer.specs.Bytes.{colon, parted}
 
-pub record Clean (f : List ℕ) : Type 0 where
-  pub bare : free f ≡ true
-  pub text : IsUtf8 f
-
-pub clean_textual : (f : List ℕ) → textual f ≡ true → Clean f
+pub clean_textual : (f : List ℕ) → textual f ≡ true → Piece f
 clean_textual f t =
     let p = (and_parts (sized f) _ t).1 in
     let q = and_parts (free f) _ p in
@@ -42,7 +39,7 @@ bare_colon (b ∷ bs) h zero l e = let p = and_parts (not (reserved b)) (free bs
 bare_colon (b ∷ bs) h (suc i) l e = let p = and_parts (not (reserved b)) (free bs) h in bare_colon bs p.1 i (omega arith) e
 
 -- fields that are parted by colons are the fields of what comes of it
-pub fields_parted : (f : List ℕ) (fs : List (List ℕ)) → AllByRecursion Clean (f ∷ fs) → fields (parted (f ∷ fs)) ≡ f ∷ fs
+pub fields_parted : (f : List ℕ) (fs : List (List ℕ)) → AllByRecursion Piece (f ∷ fs) → fields (parted (f ∷ fs)) ≡ f ∷ fs
 fields_parted f [] h = ap fields (append-nil f) ∙ fields_last f (bare_colon f h.0.bare)
 fields_parted f (g ∷ fs) h = fields_more f (parted (g ∷ fs)) (bare_colon f h.0.bare) ∙ ap (λ l. f ∷ l) (fields_parted g fs h.1)
 
@@ -50,22 +47,22 @@ plain_append : (xs ys : List ℕ) → plain xs ≡ true → plain ys ≡ true �
 plain_append [] ys a b = b
 plain_append (x ∷ xs) ys a b = let p = and_parts (not (eqb x 123 || eqb x 125)) (plain xs) a in and_from _ _ p.0 (plain_append xs ys p.1 b)
 
-plain_colons : (fs : List (List ℕ)) → AllByRecursion Clean fs → plain (flat_map colon fs) ≡ true
+plain_colons : (fs : List (List ℕ)) → AllByRecursion Piece fs → plain (flat_map colon fs) ≡ true
 plain_colons [] h = refl
 plain_colons (f ∷ fs) h = plain_append f (flat_map colon fs) (plain_bare f h.0.bare) (plain_colons fs h.1)
 
-pub plain_parted : (fs : List (List ℕ)) → AllByRecursion Clean fs → plain (parted fs) ≡ true
+pub plain_parted : (fs : List (List ℕ)) → AllByRecursion Piece fs → plain (parted fs) ≡ true
 plain_parted [] h = refl
 plain_parted (f ∷ fs) h = plain_append f (flat_map colon fs) (plain_bare f h.0.bare) (plain_colons fs h.1)
 
 one : (b : ℕ) → b < 128 → IsUtf8 (b ∷ [])
 one b h = IsUtf8-from_ascii (b ∷ []) (IsAscii-cons b [] h IsAscii-nil)
 
-text_colons : (fs : List (List ℕ)) → AllByRecursion Clean fs → IsUtf8 (flat_map colon fs)
+text_colons : (fs : List (List ℕ)) → AllByRecursion Piece fs → IsUtf8 (flat_map colon fs)
 text_colons [] h = IsUtf8-nil
 text_colons (f ∷ fs) h = IsUtf8-append (58 ∷ []) (f ++ flat_map colon fs) (one 58 (omega arith)) (IsUtf8-append f (flat_map colon fs) h.0.text (text_colons fs h.1))
 
-pub text_parted : (fs : List (List ℕ)) → AllByRecursion Clean fs → IsUtf8 (parted fs)
+pub text_parted : (fs : List (List ℕ)) → AllByRecursion Piece fs → IsUtf8 (parted fs)
 text_parted [] h = IsUtf8-nil
 text_parted (f ∷ fs) h = IsUtf8-append f (flat_map colon fs) h.0.text (text_colons fs h.1)
 

@@ -3,11 +3,10 @@
 --     good_back     it is read back
 --     good_size     and has at most 485 bytes
 --     good          a message is good if its groups keep their rules
-use Rattle.std.proofs.Common.{◌≡◌, ℕ, ◌*◌, ◌<◌, ◌≤◌, Bool, true, subst, List, [], ◌∷◌, ◌++◌, length, take, drop, pos, is_some, Some, None, Ok, Err, codes, decimal, Option, Result, sym, refl, ap, ◌∙◌, append_assoc, arith, length-append, rules}
+use Rattle.std.proofs.Common.{◌≡◌, ℕ, ◌*◌, ◌<◌, ◌≤◌, Bool, true, subst, List, [], ◌∷◌, ◌++◌, length, drop, pos, is_some, Some, None, Ok, Err, codes, decimal, Option, Result, sym, refl, ap, ◌∙◌, arith, length-append, rules}
 use Rattle.std.specs.List.{flat_map, AllByRecursion}
 use Rattle.std.proofs.ByRecursion.{IsAscii-from_all, All-append, All-weaker}
 use Rattle.std.proofs.lemmas.Fmt.{length-decimal-le}
-use Rattle.std.proofs.lemmas.List.{take_at}
 use Rattle.std.proofs.lemmas.Str.{IsUtf8-from_ascii}
 use Rattle.protocol.specs.Words.{kind_word, code_number}
 use Rattle.protocol.specs.declared.code.Code.{Code}
@@ -30,7 +29,8 @@ use Rattle.writer.specs.Written.{at_start, written, Wrote, message_head, Spells}
 use Rattle.std.proofs.lemmas.List.Concat.{flat_map-append}
 use Rattle.writer.proofs.Drafts.{parted_more, puts_as, puts_packet}
 use Rattle.packet.specs.declared.head.Head.{Head}
-use Rattle.writer.proofs.Clean.{Clean, clean_textual, fields_parted, plain_parted, text_parted, fields_body}
+use Rattle.packet.proofs.Pieces.{Piece}
+use Rattle.writer.proofs.Clean.{clean_textual, fields_parted, plain_parted, text_parted, fields_body}
 use Rattle.writer.proofs.Backs.{head_back, Reads, groups_back, reads_index, reads_write, reads_code, reads_readout}
 use Rattle.std.proofs.lemmas.Bool.{and_parts, false≢true, le-ltb}
 use Rattle.protocol.specs.Texts.{free, sized, textual}
@@ -42,31 +42,31 @@ use Rattle.packet.specs.Groups.{index_group, write_group, code_group, reading_gr
 pub record Good (m : Message) : Type 0 where
   pub number : m.number < 65536
   pub goes : Goes m.version (command_of m.content)
-  pub clean : AllByRecursion Clean (content_fields m.content)
+  pub clean : AllByRecursion Piece (content_fields m.content)
   pub reads : content_by (direction_of m.content) (command_of m.content) (content_fields m.content) ≡ Ok m.content
   pub small : length (flat_map colon (content_fields m.content)) ≤ 470
 
-pub clean_ascii : (f : List ℕ) → free f ≡ true → AllByRecursion (λ b. b < 128) f → Clean f
+pub clean_ascii : (f : List ℕ) → free f ≡ true → AllByRecursion (λ b. b < 128) f → Piece f
 clean_ascii f b a = record { bare = b; text = IsUtf8-from_ascii f (IsAscii-from_all f a) }
 
-pub clean_decimal : (n : ℕ) → n < 65536 → Clean (decimal n)
+pub clean_decimal : (n : ℕ) → n < 65536 → Piece (decimal n)
 clean_decimal n h = clean_textual (decimal n) (signed_textual (pos n) (record { sfits = omega arith }))
 
-clean_version : (version : Version) → Clean (version_word version)
+clean_version : (version : Version) → Piece (version_word version)
 clean_version V10 = clean_ascii (codes "1.0") refl (search rules)
 clean_version V11 = clean_ascii (codes "1.1") refl (search rules)
 
-clean_direction : (direction : Direction) → Clean (direction_word direction)
+clean_direction : (direction : Direction) → Piece (direction_word direction)
 clean_direction Request = clean_ascii (codes "R") refl (search rules)
 clean_direction Answer = clean_ascii (codes "A") refl (search rules)
 
-clean_command : (command : Command) → Clean (decimal (command_number command))
+clean_command : (command : Command) → Piece (decimal (command_number command))
 clean_command Read = clean_decimal 1 (omega arith)
 clean_command Write = clean_decimal 2 (omega arith)
 clean_command Discovery = clean_decimal 3 (omega arith)
 
 -- the fields of the head
-head_clean : (version : Version) (direction : Direction) (n : ℕ) (command : Command) → n < 65536 → AllByRecursion Clean (head_fields version direction n command)
+head_clean : (version : Version) (direction : Direction) (n : ℕ) (command : Command) → n < 65536 → AllByRecursion Piece (head_fields version direction n command)
 head_clean version direction n command h = (clean_version version, (clean_direction direction, (clean_decimal n h, (clean_command command, tt))))
 
 pub five : (n : ℕ) → n < 65536 → length (decimal n) ≤ 5
@@ -103,8 +103,8 @@ module _ (m : Message) (g : Good m) where
   pub good_size : length (bytes_of m) ≤ 485
   good_size = omega (arith, parted_size, length-append (parted (message_fields m)) (125 ∷ []))
 
-  all_clean : AllByRecursion Clean (message_fields m)
-  all_clean = All-append Clean (head_fields m.version (direction_of m.content) m.number (command_of m.content)) (content_fields m.content) (head_clean m.version (direction_of m.content) m.number (command_of m.content) g.number) g.clean
+  all_clean : AllByRecursion Piece (message_fields m)
+  all_clean = All-append Piece (head_fields m.version (direction_of m.content) m.number (command_of m.content)) (content_fields m.content) (head_clean m.version (direction_of m.content) m.number (command_of m.content) g.number) g.clean
 
   pub good_back : packet_of (bytes_of m) ≡ Ok m
   good_back =
@@ -118,22 +118,9 @@ module _ (m : Message) (g : Good m) where
 
 -- what is to be shown of one group
 pub record Fine {X : Type 0} (width : ℕ) (group : List (List ℕ) → Result X ℕ) (f : X → List (List ℕ)) (x : X) : Type 0 where
-  pub clean : AllByRecursion Clean (f x)
+  pub clean : AllByRecursion Piece (f x)
   pub reads : Reads width group f x
   pub small : length (flat_map colon (f x)) ≤ 47
-
-module _ {X : Type 0} (width : ℕ) (group : List (List ℕ) → Result X ℕ) (f : X → List (List ℕ)) where
-  pub fine_clean : (xs : List X) → AllByRecursion (Fine width group f) xs → AllByRecursion Clean (flat_map f xs)
-  fine_clean [] h = tt
-  fine_clean (x ∷ xs) h = All-append Clean (f x) (flat_map f xs) h.0.clean (fine_clean xs h.1)
-
-  pub fine_reads : (xs : List X) → AllByRecursion (Fine width group f) xs → AllByRecursion (Reads width group f) xs
-  fine_reads [] h = tt
-  fine_reads (x ∷ xs) h = (h.0.reads, fine_reads xs h.1)
-
-  pub fine_small : (xs : List X) → AllByRecursion (Fine width group f) xs → length (flat_map colon (flat_map f xs)) ≤ 47 * length xs
-  fine_small [] h = omega arith
-  fine_small (x ∷ xs) h = omega (arith, ap length (flat_map-append colon (f x) (flat_map f xs)), length-append (flat_map colon (f x)) (flat_map colon (flat_map f xs)), h.0.small, fine_small xs h.1)
 
 fine_index : (i : ℕ) → i < 65536 → Fine 1 index_group index_fields i
 fine_index i h = record { clean = (clean_decimal i h, tt); reads = reads_index i h; small = omega (arith, five i h, length-append (decimal i) []) }
@@ -147,7 +134,7 @@ code_small C.OutsideLimits = omega arith
 code_one : (code : Code) → length (decimal (code_number code)) ≤ 1
 code_one code = length-decimal-le 1 (code_number code) (omega arith) (omega (arith, code_small code)) (omega (arith, code_small code))
 
-clean_code : (code : Code) → Clean (decimal (code_number code))
+clean_code : (code : Code) → Piece (decimal (code_number code))
 clean_code code = clean_decimal (code_number code) (omega (arith, code_small code))
 
 pub fine_code : (code : Code) → Fine 1 code_group code_fields code
@@ -163,7 +150,7 @@ fine_write w k =
       small = omega (arith, five w.0 h, few w.1 t, length-append (decimal w.0) (flat_map colon (w.1 ∷ [])), length-append w.1 []);
     }
 
-clean_kind : (kind : Kind) → Clean (kind_word kind)
+clean_kind : (kind : Kind) → Piece (kind_word kind)
 clean_kind K.Bo = clean_ascii (codes "Bo") refl (search rules)
 clean_kind K.In = clean_ascii (codes "In") refl (search rules)
 clean_kind K.Sh = clean_ascii (codes "Sh") refl (search rules)
@@ -210,33 +197,40 @@ all_of P h (x ∷ xs) = (h x, all_of P h xs)
 
 -- what is to be shown of a payload
 record Payload (content : Content) : Type 0 where
-  clean : AllByRecursion Clean (content_fields content)
+  clean : AllByRecursion Piece (content_fields content)
   reads : content_by (direction_of content) (command_of content) (content_fields content) ≡ Ok content
   small : length (flat_map colon (content_fields content)) ≤ 470
 
--- groups that are fine, and few
-module _ {X : Type 0} (width : ℕ) (group : List (List ℕ) → Result X ℕ) (f : X → List (List ℕ)) (none : group [] ≡ Err 0) (xs : List X) (fine : AllByRecursion (Fine width group f) xs) where
-  fine_back : (least most : ℕ) → least ≤ length xs → length xs ≤ most → groups width group 4 least (flat_map f xs) most ≡ Ok xs
-  fine_back least most low high = groups_back width group f none 4 least most xs (fine_reads width group f xs fine) low high
+-- all groups of a payload, which are fine and few
+record Together {X : Type 0} (width : ℕ) (group : List (List ℕ) → Result X ℕ) (f : X → List (List ℕ)) (least most : ℕ) (xs : List X) : Type 0 where
+  clean : AllByRecursion Piece (flat_map f xs)
+  reads : groups width group 4 least (flat_map f xs) most ≡ Ok xs
+  small : length (flat_map colon (flat_map f xs)) ≤ 470
 
-  fine_few : length xs ≤ 10 → length (flat_map colon (flat_map f xs)) ≤ 470
-  fine_few high = omega (arith, fine_small width group f xs fine)
+module _ {X : Type 0} (width : ℕ) (group : List (List ℕ) → Result X ℕ) (f : X → List (List ℕ)) where
+  fine_clean : (xs : List X) → AllByRecursion (Fine width group f) xs → AllByRecursion Piece (flat_map f xs)
+  fine_clean [] h = tt
+  fine_clean (x ∷ xs) h = All-append Piece (f x) (flat_map f xs) h.0.clean (fine_clean xs h.1)
+
+  fine_small : (xs : List X) → AllByRecursion (Fine width group f) xs → length (flat_map colon (flat_map f xs)) ≤ 47 * length xs
+  fine_small [] h = omega arith
+  fine_small (x ∷ xs) h = omega (arith, ap length (flat_map-append colon (f x) (flat_map f xs)), length-append (flat_map colon (f x)) (flat_map colon (flat_map f xs)), h.0.small, fine_small xs h.1)
+
+  together : group [] ≡ Err 0 → (least most : ℕ) (xs : List X) → AllByRecursion (Fine width group f) xs → least ≤ length xs → length xs ≤ most → most ≤ 10 → Together width group f least most xs
+  together none least most xs fine low high few =
+      record {
+        clean = fine_clean xs fine;
+        reads = groups_back width group f none 4 least most xs (All-weaker (Fine width group f) (Reads width group f) (λ x h. h.reads) xs fine) low high;
+        small = omega (arith, fine_small xs fine);
+      }
 
 payload : (content : Content) → 1 ≤ count_of content → count_of content ≤ 10 → (command_of content ≡ Discovery → count_of content ≡ 2) → Kept content → Payload content
 payload (read_request is) low high both k =
-    let fine = All-weaker (λ i. i < 65536) (Fine 1 index_group index_fields) fine_index is k in
-    record {
-      clean = fine_clean 1 index_group index_fields is fine;
-      reads = ap (with_ok read_request) (fine_back 1 index_group index_fields refl is fine 1 10 low high);
-      small = fine_few 1 index_group index_fields refl is fine high;
-    }
+    let t = together 1 index_group index_fields refl 1 10 is (All-weaker (λ i. i < 65536) (Fine 1 index_group index_fields) fine_index is k) low high (omega arith) in
+    record { clean = t.clean; reads = ap (with_ok read_request) t.reads; small = t.small }
 payload (write_request ws) low high both k =
-    let fine = All-weaker KeptWrite (Fine 2 write_group write_fields) fine_write ws k in
-    record {
-      clean = fine_clean 2 write_group write_fields ws fine;
-      reads = ap (with_ok write_request) (fine_back 2 write_group write_fields refl ws fine 1 10 low high);
-      small = fine_few 2 write_group write_fields refl ws fine high;
-    }
+    let t = together 2 write_group write_fields refl 1 10 ws (All-weaker KeptWrite (Fine 2 write_group write_fields) fine_write ws k) low high (omega arith) in
+    record { clean = t.clean; reads = ap (with_ok write_request) t.reads; small = t.small }
 payload discovery_request low high both k =
     record {
       clean = (clean_ascii (codes "2") refl (search rules), (clean_ascii (codes "3") refl (search rules), tt));
@@ -244,26 +238,15 @@ payload discovery_request low high both k =
       small = omega arith;
     }
 payload (read_answer xs) low high both k =
-    let fine = All-weaker KeptReadout (Fine 3 reading_group readout_fields) fine_readout xs k in
-    record {
-      clean = fine_clean 3 reading_group readout_fields xs fine;
-      reads = ap (with_ok read_answer) (fine_back 3 reading_group readout_fields refl xs fine 1 10 low high);
-      small = fine_few 3 reading_group readout_fields refl xs fine high;
-    }
+    let t = together 3 reading_group readout_fields refl 1 10 xs (All-weaker KeptReadout (Fine 3 reading_group readout_fields) fine_readout xs k) low high (omega arith) in
+    record { clean = t.clean; reads = ap (with_ok read_answer) t.reads; small = t.small }
 payload (write_answer cs) low high both k =
-    let fine = all_of (Fine 1 code_group code_fields) fine_code cs in
-    record {
-      clean = fine_clean 1 code_group code_fields cs fine;
-      reads = ap (with_ok write_answer) (fine_back 1 code_group code_fields refl cs fine 1 10 low high);
-      small = fine_few 1 code_group code_fields refl cs fine high;
-    }
+    let t = together 1 code_group code_fields refl 1 10 cs (all_of (Fine 1 code_group code_fields) fine_code cs) low high (omega arith) in
+    record { clean = t.clean; reads = ap (with_ok write_answer) t.reads; small = t.small }
 payload (discovery_answer xs) low high both k =
-    let fine = All-weaker KeptReadout (Fine 3 reading_group readout_fields) fine_readout xs k in
-    record {
-      clean = fine_clean 3 reading_group readout_fields xs fine;
-      reads = ap (with_ok discovery_answer) (fine_back 3 reading_group readout_fields refl xs fine 2 2 (omega (arith, both refl)) (omega (arith, both refl)));
-      small = fine_few 3 reading_group readout_fields refl xs fine high;
-    }
+    let two = both refl in
+    let t = together 3 reading_group readout_fields refl 2 2 xs (All-weaker KeptReadout (Fine 3 reading_group readout_fields) fine_readout xs k) (omega (arith, two)) (omega (arith, two)) (omega arith) in
+    record { clean = t.clean; reads = ap (with_ok discovery_answer) t.reads; small = t.small }
 
 pub good : (m : Message) → Bounded m → Goes m.version (command_of m.content) → Kept m.content → Good m
 good m b g k =

@@ -1,6 +1,7 @@
 -- What writing a message into a row gives.
-use Rattle.std.specs.Prelude.{◌≡◌, ℕ, ◌≤◌, Bool, cond, true, List, ◌++◌, length, drop, IfOk, Ok, Err, Result, nat_lt}
-use Rattle.std.specs.List.{flat_map}
+use Rattle.std.specs.Prelude.{◌≡◌, ℕ, ◌≤◌, Bool, cond, true, List, ◌++◌, length, drop, IfOk, Ok, Err, Option, Result, nat_lt}
+use Rattle.std.specs.Iterator.{Drains}
+use Rattle.std.specs.List.{flat_map, AllByRecursion}
 use Rattle.protocol.specs.declared.refusal.Refusal.{Refusal}
 use Rattle.protocol.specs.declared.refusal.Refusal.TheVariants.{ShortMemory, Limit}
 use Rattle.packet.specs.declared.head.Head.{Head}
@@ -49,3 +50,7 @@ pub record Ruled (m : Message) : Type 0 where
 pub record Spells {G : Type 0} (fields : G → List (List ℕ)) (groups : List G) (allowed : Bool) (m : Message) : Type 0 where
   pub same : flat_map fields groups ≡ content_fields m.content
   pub ruled : allowed ≡ true → Ruled m
+
+-- whenever all groups came, they spell the message
+abbrev pub AlwaysSpells : {I G : Type 0} → (I → Option G → I → Type 0) → (G → List (List ℕ)) → (G → Type 0) → I → Bool → Message → Type 0
+AlwaysSpells {G = G} gives fields fits groups allowed m = (xs : List G) → Drains gives groups xs → AllByRecursion fits xs → Spells fields xs allowed m

@@ -41,6 +41,7 @@ pub fn write_again(row: &mut [u8], bytes: &[u8]) -> Result<usize, Refusal>
     ensures same { IfOk result (λ n. with_ok meant (packet_of (take n row.new)) ≡ with_ok meant (packet_of bytes.now)) }
     ensures once { IfOk result (λ n. (other : List ℕ) → rewritten (take n row.new) other ≡ rewritten bytes.now other) }
 {
+    // A short row is refused before the packet is read.
     if row.len() < 512 {
         return Err(Refusal::ShortMemory);
     }

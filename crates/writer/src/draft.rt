@@ -40,11 +40,13 @@ impl Draft {
         self.bytes.as_slice()
     }
 
-    /// Puts bytes behind those so far, as many as there is room for.
+    /// Puts bytes behind those so far, as many as there is room for. (Text by `write!` would answer a
+    /// `Result` with no promise of when it is `Ok`, and the calls that write a packet promise theirs.)
     pub(crate) fn put(&mut self, bytes: &[u8])
         ensures { Puts self.old bytes.now self.new }
     {
         let fitting = bytes.len().min(self.bytes.remaining_capacity());
+        // It succeeds, since they fit.
         let _ = self.bytes.try_extend_from_slice(&bytes[..fitting]);
     }
 
@@ -71,6 +73,6 @@ impl Draft {
         self.put(head.version.word().as_bytes());
         self.put_field(head.direction.word().as_bytes());
         self.put_number(head.number);
-        self.put_number(head.command.number() as u16);
+        self.put_number(u16::from(u8::from(head.command)));
     }
 }

@@ -1,9 +1,8 @@
 //! Writing a packet of any kind.
-ghost use Rattle.std.specs.Prelude.{◌≡◌, List};
-ghost use Rattle.std.specs.Iterator.{Drains, IsFinite};
-ghost use Rattle.std.specs.List.{AllByRecursion};
+ghost use Rattle.std.specs.Prelude.{◌≡◌};
+ghost use Rattle.std.specs.Iterator.{IsFinite};
 ghost use Rattle.packet.specs.Messages.{Message};
-ghost use Rattle.writer.specs.Written.{message_head, Spells, Wrote};
+ghost use Rattle.writer.specs.Written.{message_head, AlwaysSpells, Wrote};
 
 use crate::draft::Draft;
 use crate::put::Put;
@@ -19,7 +18,7 @@ pub(crate) fn write<G: Put + Drop, I: Iterator<Item = G> + Drop>(
 ) -> Result<usize, Refusal>
     requires can { I.can_next groups }
     requires ends { IsFinite (I.remaining groups) }
-    ensures { (m : Message) → head ≡ message_head m → ((xs : List G) → Drains I.next_gives groups xs → AllByRecursion G.fits xs → Spells G.fields xs allowed m) → Wrote allowed m row.old row.new result }
+    ensures { (m : Message) → head ≡ message_head m → AlwaysSpells I.next_gives G.fields G.fits groups allowed m → Wrote allowed m row.old row.new result }
 {
     if row.len() < 512 {
         return Err(Refusal::ShortMemory);

@@ -1,4 +1,4 @@
-use Rattle.std.proofs.Common.{decimal, rules}
+use Rattle.std.proofs.Common.{decimal}
 use Rattle.writer.proofs.Drafts.{puts_last}
 use Rattle.writer.proofs.put.U16Put.put.Goals as goal
 
