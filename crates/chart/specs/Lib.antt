@@ -1,3 +1,3 @@
 pub mod Lines
 pub mod Rows
-pub mod Words
+pub mod Troubles

@@ -4,7 +4,7 @@ ghost use Rattle.std.specs.Option.{option_map};
 ghost use Rattle.sky.specs.Stars.{row};
 ghost use Rattle.chart.specs.Lines.{lines_of};
 ghost use Rattle.chart.specs.Rows.{seen_row, if_new, judged, skipped, named, with_line, charted, unused_at, unused, rows_of};
-ghost use Rattle.chart.specs.Words.{trouble_words};
+ghost use Rattle.chart.specs.Troubles.{trouble_text};
 ghost use Rattle.chart.specs.declared.chart.RowTrouble.TheVariants.{Fault};
 
 use crate::lines::Lines;
@@ -13,10 +13,11 @@ use sky::names::find;
 use sky::rows::read_row;
 use sky::star::Star;
 use std::alloc::{AllocError, Global};
+use std::error::Error;
 use std::fmt;
 
 /// Why a row is not used.
-#[derive(Clone, Copy)]
+#[derive(Clone, Copy, Debug, PartialEq, Eq)]
 pub enum RowTrouble {
     /// The row is no star.
     Fault(RowFault),
@@ -34,26 +35,20 @@ impl From<RowFault> for RowTrouble {
 
 /// Writes it as a sentence for a reader.
 impl fmt::Display for RowTrouble {
-    ghost output = { λ trouble. Some (trouble_words trouble) };
+    ghost output = { λ trouble. Some (trouble_text trouble) };
 
     fn fmt<W: fmt::Write>(&self, f: &mut fmt::Formatter<W>) -> fmt::Result {
-        f.write_str(match self {
-            RowTrouble::Fault(RowFault::Fields) => "the row is not NAME,ASCENSION,DECLINATION",
-            RowTrouble::Fault(RowFault::Name) =>
-                "the name is not 1 to 40 bytes of UTF-8 without { } :",
-            RowTrouble::Fault(RowFault::Ascension) => {
-                "the right ascension is no whole number from 0 to 1295999999"
-            }
-            RowTrouble::Fault(RowFault::Declination) => {
-                "the declination is no whole number from -324000000 to 324000000"
-            }
-            RowTrouble::Taken => "the name stands in an earlier row, which holds",
-        })
+        match self {
+            RowTrouble::Fault(fault) => write!(f, "{fault}"),
+            RowTrouble::Taken => f.write_str("the name stands in an earlier row, which holds"),
+        }
     }
 }
 
+impl Error for RowTrouble {}
+
 /// A row that is not used, by its line, counted from 1.
-#[derive(Clone, Copy)]
+#[derive(Clone, Copy, Debug, PartialEq, Eq)]
 pub struct UnusedRow {
     pub line: usize,
     pub trouble: RowTrouble,

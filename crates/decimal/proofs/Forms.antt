@@ -1,5 +1,5 @@
 -- What a decimal keeps: its normal form, and a power of ten that its range bounds.
-use Rattle.std.proofs.Common.{◌≡◌, ◌%◌, ◌^◌, ◌<◌, Bool, true, not, eqb, ltb, ◌⊎◌, ℤ, pos, negsuc, ◌+ℤ◌, ◌≤ℤ◌, Some, sym, refl, ap, ◌∙◌, subst, inl, inr, arith}
+use Rattle.std.proofs.Common.{◌≡◌, ◌%◌, ◌^◌, ◌<◌, true, not, eqb, ltb, ◌⊎◌, ℤ, pos, negsuc, ◌+ℤ◌, ◌≤ℤ◌, Some, sym, ap, ◌∙◌, subst, inl, inr, arith}
 use lib.Signed.{le_z}
 use Rattle.std.proofs.lemmas.Int.{ints}
 use Rattle.std.proofs.lemmas.Bool.{cases_eq, and_parts, or_cases, cond-true, eqb-true, eq-eqb, ltb-true, not-true}
@@ -7,9 +7,8 @@ use Rattle.std.proofs.lemmas.Bool.Decides.{nat_tests}
 use Rattle.protocol.specs.Texts.{textual}
 use Rattle.decimal.specs.declared.real.Real.{Real}
 use Rattle.decimal.specs.Normal.{Normal, nought, is_zero, in_form}
-use Rattle.decimal.specs.Range.{inside, is_single, is_double, si_least, si_most, do_least, do_most, passing, within_of, single_of, double_of, at_most, is_end}
+use Rattle.decimal.specs.Range.{inside, passing, within_of, at_most, is_end}
 use Rattle.decimal.specs.Spelling.{spelling}
-use Rattle.decimal.specs.Reading.{decimal_of}
 use Rattle.decimal.specs.Views.{real_of}
 use Rattle.decimal.specs.declared.ranged.Ranged.{Ranged}
 use Rattle.decimal.proofs.Backs.{real_reads_back}
@@ -72,27 +71,12 @@ kept least most d a b f i =
       | inr r ↦ kept_by d f (grind (arith, ints, nat_tests, a, r.0)) (grind (arith, ints, nat_tests, b, r.1))
     ]
 
-pub kept_double : (d : Real) → in_form d ≡ true → is_double d ≡ true → Kept d
-kept_double d f i = kept do_least do_most d refl refl f i
-
-pub kept_single : (d : Real) → in_form d ≡ true → is_single d ≡ true → Kept d
-kept_single d f i = kept si_least si_most d refl refl f i
-
 pub spelled_textual : (d : Real) → Kept d → textual (spelling d) ≡ true
 spelled_textual d k = spelling_textual d k.normal k.low k.high
 
-spelled_back : (test : Real → Bool) (d : Real) → Kept d → test d ≡ true → passing test (decimal_of (spelling d)) ≡ Some d
-spelled_back test d k t = ap (passing test) (real_reads_back d k.normal k.low k.high) ∙ cond-true _ _ _ t
-
 -- a decimal's spelling reads back as the decimal
 pub within_back : (least most d : Real) → Kept d → inside least most d ≡ true → within_of least most (spelling d) ≡ Some d
-within_back least most d k i = spelled_back (inside least most) d k i
-
-pub double_back : (d : Real) → in_form d ≡ true → is_double d ≡ true → double_of (spelling d) ≡ Some d
-double_back d f i = spelled_back is_double d (kept_double d f i) i
-
-pub single_back : (d : Real) → in_form d ≡ true → is_single d ≡ true → single_of (spelling d) ≡ Some d
-single_back d f i = spelled_back is_single d (kept_single d f i) i
+within_back least most d k i = ap (passing (inside least most)) (real_reads_back d k.normal k.low k.high) ∙ cond-true _ _ _ i
 
 -- what is known of a decimal in any reach, as Single and Decimal
 pub ranged_kept : {R B : _} (d : Ranged R B) → Kept (real_of d)

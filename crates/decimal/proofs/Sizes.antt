@@ -1,13 +1,14 @@
 -- Sizes of decimals, compared by 18 digits and a power of ten.
-use Rattle.std.proofs.Common.{◌≡◌, ℕ, suc, ◌+◌, ◌-◌, ◌*◌, ◌^◌, ◌<◌, ◌≤◌, true, leb, ℤ, pos, negsuc, ◌+ℤ◌, ◌-ℤ◌, nat_abs, ◌≤ℤ◌, Some, sym, refl, ap, ◌∙◌, inl, inr, mul-le-mul_right, mul_assoc, mul-le-mul, mul-lt-mul_of_pos_right, pow-suc, arith, pow-add, ◌<ℤ◌, Ordering}
+use Rattle.std.proofs.Common.{◌≡◌, ℕ, suc, ◌+◌, ◌-◌, ◌*◌, ◌^◌, ◌<◌, ◌≤◌, true, leb, ℤ, pos, negsuc, ◌+ℤ◌, ◌-ℤ◌, nat_abs, ◌≤ℤ◌, Some, sym, refl, ap, ◌∙◌, inl, inr, mul-le-mul_right, mul_assoc, mul-le-mul, mul-lt-mul_of_pos_right, pow-suc, arith, pow-add, ◌<ℤ◌, Ordering, Bool, ◌&&◌}
 use native.Mathlib.Nat.{pow-le-pow_right, one-le-pow}
 use Rattle.std.proofs.lemmas.Int.{ints, by_lt_z}
 use Rattle.std.proofs.lemmas.Bool.{cases_lt, cases_eq, le-leb, lt-leb, leb-true}
+use Rattle.std.proofs.lemmas.Bool.Decides.{nat_tests}
 use Rattle.std.specs.Cmp.{nat_cmp_is, int_cmp_is}
 use Rattle.std.specs.Ordering.{is_le, is_some_and, nat_cmp, int_cmp, partial_ordering_then}
 use Rattle.std.specs.declared.cmp.Ordering.TheVariants.{Less, Equal, Greater}
 use Rattle.decimal.specs.declared.real.Real.{Real}
-use Rattle.decimal.specs.Range.{above, at_most, size_of}
+use Rattle.decimal.specs.Range.{above, at_most, size_of, is_end}
 
 pub lower : (x y p q : ℕ) → x < 10 ^ 18 → 10 ^ 17 ≤ y → p < q → x * 10 ^ p < y * 10 ^ q
 lower x y p q a b l =
@@ -115,6 +116,12 @@ near a b o s t =
     under : (z : ℤ) → z ≤ℤ pos 0 → above z ≡ 0
     under (pos n) h = omega (arith, ints)
     under (negsuc n) h = refl
+
+pub both : (a b c d : Bool) → a ≡ c → b ≡ d → (a && b) ≡ (c && d)
+both a b c d p q = ap (λ t. t && b) p ∙ ap (λ t. c && t) q
+
+pub end_low : (e : Real) → is_end e ≡ true → negsuc 1099 ≤ℤ e.exponent
+end_low e t = grind (arith, ints, nat_tests, t)
 
 -- sizes that are aligned compare by their powers of ten first
 module _ (m n x y : ℕ) (p q : ℤ) (e : m ≡ x * 10 ^ nat_abs (p +ℤ pos 1200)) (f : n ≡ y * 10 ^ nat_abs (q +ℤ pos 1200)) (l : negsuc 1199 ≤ℤ p) (h : negsuc 1199 ≤ℤ q) (a : (10 ^ 17 ≤ x) × (x < 10 ^ 18)) (b : (10 ^ 17 ≤ y) × (y < 10 ^ 18)) where

@@ -54,7 +54,7 @@ abbrev pub within_of : Real → Real → List ℕ → Option Real
 within_of least most bs = passing (inside least most) (decimal_of bs)
 
 abbrev pub single_of : List ℕ → Option Real
-single_of bs = passing is_single (decimal_of bs)
+single_of bs = within_of si_least si_most bs
 
 abbrev pub double_of : List ℕ → Option Real
-double_of bs = passing is_double (decimal_of bs)
+double_of bs = within_of do_least do_most bs

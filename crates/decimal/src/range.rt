@@ -1,6 +1,6 @@
 //! Whether a real lies in a reach.
 ghost use Rattle.std.specs.Prelude.{◌≡◌, ◌*◌, ◌^◌, ◌<◌, ◌≤◌, pos, negsuc, ◌+ℤ◌, ◌≤ℤ◌, unsigned_abs};
-ghost use Rattle.decimal.specs.Range.{at_most, inside, size_of};
+ghost use Rattle.decimal.specs.Range.{inside, size_of};
 
 use crate::normal::NormalReal;
 use crate::reach::Reach;
@@ -22,20 +22,9 @@ fn aligned(d: Real) -> (i64, u64)
     )
 }
 
-/// Whether one size is at most another, of two reals that are not zero.
-fn at_most(a: Real, b: Real) -> bool
-    requires a_digits { (0 < a.digits) × (a.digits < 10 ^ 18) }
-    requires b_digits { (0 < b.digits) × (b.digits < 10 ^ 18) }
-    requires a_bounds { (negsuc 1099 ≤ℤ a.exponent) × (a.exponent ≤ℤ pos 1100) }
-    requires b_bounds { (negsuc 1099 ≤ℤ b.exponent) × (b.exponent ≤ℤ pos 1100) }
-    ensures { result ≡ at_most a b }
-{
-    aligned(a) <= aligned(b)
-}
-
 /// Whether a real is zero, or has a size in the reach.
 pub(crate) fn is_within<R: Reach>(d: NormalReal) -> bool
     ensures { result ≡ inside R.LEAST R.MOST d.real }
 {
-    d.real.digits == 0 || (at_most(R::LEAST, d.real) && at_most(d.real, R::MOST))
+    d.real.digits == 0 || (aligned(R::LEAST)..=aligned(R::MOST)).contains(&aligned(d.real))
 }

@@ -52,8 +52,7 @@ fn read_power(rest: &[u8]) -> Option<i16>
     match rest {
         [] => Some(0),
         [b'E', b'-', digits @ ..] => Some(-power_digits(digits)?),
-        [b'E', b'+', digits @ ..] => power_digits(digits),
-        [b'E', digits @ ..] => power_digits(digits),
+        [b'E', b'+', digits @ ..] | [b'E', digits @ ..] => power_digits(digits),
         _ => None,
     }
 }

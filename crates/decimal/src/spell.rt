@@ -29,7 +29,7 @@ fn put_power(text: &mut ArrayString<40>, p: i16)
     ensures { text.new.bytes ≡ text.old.bytes ++ (69 ∷ power_text p) }
 {
     let mut buffer = Buffer::new();
-    text.push_str("E");
+    text.push('E');
     text.push_str(power_sign(p));
     text.push_str(buffer.format(p.unsigned_abs()));
 }
@@ -46,7 +46,7 @@ fn put_pointed(text: &mut ArrayString<40>, digits: &str, whole: usize)
     }
     let (front, fraction) = digits.split_at(whole);
     text.push_str(front);
-    text.push_str(".");
+    text.push('.');
     text.push_str(fraction);
 }
 
@@ -87,7 +87,7 @@ pub(crate) fn spell(d: NormalReal) -> Text
 {
     let mut text = ArrayString::<40>::new();
     if d.real.negative {
-        text.push_str("-");
+        text.push('-');
     }
     let mut buffer = Buffer::new();
     let digits = buffer.format(d.real.digits);

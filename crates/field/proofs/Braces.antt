@@ -1,11 +1,11 @@
 -- Braces and UTF-8.
-use Rattle.std.proofs.Common.{◌≡◌, ℕ, ◌+◌, ◌-◌, ◌<◌, ◌≤◌, Bool, true, false, cond, not, ◌&&◌, ◌||◌, eqb, leb, ◌⊎◌, List, [], ◌∷◌, ◌++◌, length, get_or, take, drop, Some, None, Ok, Err, IsUtf8, sym, refl, ap, ◌∙◌, subst, ⊎_elim, arith, length-drop, length-take}
-use Rattle.std.specs.List.{list_any}
+use Rattle.std.proofs.Common.{◌≡◌, ℕ, ◌+◌, ◌-◌, ◌<◌, ◌≤◌, Bool, true, false, cond, not, ◌&&◌, ◌||◌, eqb, leb, List, [], ◌∷◌, ◌++◌, length, get_or, take, drop, Some, None, Ok, Err, IsUtf8, sym, refl, ap, ◌∙◌, subst, ⊎_elim, arith, length-drop, length-take}
+use Rattle.std.specs.List.{list_all}
 use Rattle.std.specs.Bool.{◌==◌}
-use Rattle.std.proofs.lemmas.List.{at_drop_more, drop_more, take_more, get_or-drop, take_all}
+use Rattle.std.proofs.lemmas.List.{drop_more, take_more, get_or-drop, take_all}
 use Rattle.std.proofs.lemmas.Str.Ascii.{IsAscii-cons, IsAscii-nil}
 use Rattle.std.proofs.lemmas.Str.{IsUtf8-between, IsUtf8-append, IsUtf8-from_ascii, IsCharBoundary-after_ascii}
-use Rattle.std.proofs.lemmas.Bool.{and_parts, eqb-true, ne_eqb, cases_Bool, leb-true, le-ltb}
+use Rattle.std.proofs.lemmas.Bool.{and_parts, eqb-true, cases_Bool, leb-true, le-ltb}
 use Rattle.protocol.specs.Texts.{utf8}
 use Rattle.protocol.specs.declared.refusal.Refusal.TheVariants.{NotUtf8}
 use Rattle.protocol.proofs.PlainText.{utf8_decides}
@@ -13,16 +13,12 @@ use Rattle.field.specs.Fields.{fields}
 use Rattle.field.specs.Frames.{plain, inside, framed, fields_of}
 use Rattle.field.proofs.Splits.{Ends}
 
-abbrev pub is_brace : ℕ → Bool
-is_brace b = b == 123 || b == 125
+abbrev pub no_brace : ℕ → Bool
+no_brace b = not (b == 123 || b == 125)
 
-not_either : (a b : Bool) → not (a || b) ≡ (not a && not b)
-not_either true b = refl
-not_either false b = refl
-
-pub plain_any : (bs : List ℕ) → not (list_any is_brace bs) ≡ plain bs
-plain_any [] = refl
-plain_any (b ∷ bs) = not_either (is_brace b) (list_any is_brace bs) ∙ ap (λ t. not (is_brace b) && t) (plain_any bs)
+pub plain_all : (bs : List ℕ) → list_all no_brace bs ≡ plain bs
+plain_all [] = refl
+plain_all (b ∷ bs) = ap (λ t. no_brace b && t) (plain_all bs)
 
 -- what `framed` tests of the two ends
 pub record Framed (bs : List ℕ) : Type 0 where
@@ -63,7 +59,7 @@ utf8_inside bs f u = subst IsUtf8 (sym (framed_parts bs f)) (IsUtf8-append _ _ (
 -- what the test of the frame leaves
 pub some_framed : (b : Bool) (x y : List ℕ) → Some x ≡ cond b (Some y) None → (b ≡ true) × (x ≡ y)
 some_framed true x y e = (refl, cc)
-some_framed false x y e = let z : ◌≡◌ {A = ℕ} 0 1 = cc in absurd (omega arith)
+some_framed false x y e = cc
 
 module _ (bs body : List ℕ) (short : length bs ≤ 512) (e : Some body ≡ cond (framed bs) (Some (inside bs)) None) where
   pub fields_there : (text : List ℕ) → text ≡ body → IsUtf8 body → fields_of bs ≡ Ok (fields text)

@@ -13,7 +13,7 @@ use std::str::from_utf8;
 fn is_plain(bytes: &[u8]) -> bool
     ensures { result ≡ plain bytes.now }
 {
-    !bytes.iter().any(|b| *b == b'{' || *b == b'}')
+    bytes.iter().all(|b| *b != b'{' && *b != b'}')
 }
 
 /// What stands between the two braces of a packet that has no others.

@@ -1,4 +1,4 @@
-//! The words of a packet's head.
+//! The words of a packet's head. Each type has a table of its own: no two have a word or a number in common.
 ghost use Rattle.std.specs.Prelude.{◌≡◌};
 ghost use Rattle.std.specs.Result.{result_ok};
 ghost use Rattle.field.specs.Words.{version_word, version_named, direction_word, direction_named, command_number, command_numbered};

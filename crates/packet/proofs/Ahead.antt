@@ -1,7 +1,6 @@
 -- Groups in a row.
-use Rattle.std.proofs.Common.{◌≡◌, ℕ, zero, suc, ◌+◌, ◌-◌, ◌*◌, ◌<◌, ◌≤◌, true, false, eqb, List, [], ◌∷◌, length, drop, Some, Ok, Err, Result, sym, refl, ap, ◌∙◌, mul-zero, mul-suc, add-one, arith}
+use Rattle.std.proofs.Common.{◌≡◌, ℕ, zero, suc, ◌+◌, ◌-◌, ◌*◌, ◌<◌, ◌≤◌, true, false, eqb, List, [], ◌∷◌, length, drop, Ok, Err, Result, sym, refl, ap, ◌∙◌, mul-zero, mul-suc, add-one, arith}
 use Rattle.std.proofs.lemmas.Bool.{ne_eqb, eq-eqb, true≢false, false≢true}
-use Rattle.field.specs.Fields.{first}
 use Rattle.packet.specs.Groups.{in_front, if_group, groups, ahead}
 
 -- what is left after n groups
@@ -14,20 +13,6 @@ past_more width zero fs = refl
 past_more width (suc n) fs = past_more width n (drop width fs)
 
 module _ {X : Type 0} (width : ℕ) (group : List (List ℕ) → Result X ℕ) where
-  -- a cursor with n groups left hands one out
-  pub hands_out : (n : ℕ) (fs gs : List (List ℕ)) (x : X) → 0 < n → Ok x ≡ group fs → gs ≡ drop width fs → (Some x ≡ first (ahead width group n fs)) × (ahead width group (n - 1) gs ≡ drop 1 (ahead width group n fs))
-  hands_out zero fs gs x h e d = absurd (omega arith)
-  hands_out (suc n) fs gs x h e d =
-      let k : suc n - 1 ≡ n = omega arith in (
-        ap (λ r. first (if_group r (ahead width group n (drop width fs)))) e,
-        (λ i. ahead width group (k i) (d i)) ∙ ap (λ r. drop 1 (if_group r (ahead width group n (drop width fs)))) e,
-      )
-
-  -- or comes to its end
-  pub ends : (n : ℕ) (fs : List (List ℕ)) (place : ℕ) → Err place ≡ group fs → [] ≡ ahead width group n fs
-  ends zero fs place e = refl
-  ends (suc n) fs place e = ap (λ r. if_group r (ahead width group n (drop width fs))) e
-
   -- the first of suc n groups
   record Begins (n : ℕ) (fs : List (List ℕ)) : Type 0 where
     x : X
@@ -50,7 +35,7 @@ module _ {X : Type 0} (width : ℕ) (group : List (List ℕ) → Result X ℕ) w
 
   module _ (none : group [] ≡ Err 0) where
     pub groups_step : (k least most : ℕ) (fs : List (List ℕ)) (x : X) → group fs ≡ Ok x → groups width group k least fs (suc most) ≡ in_front x (groups width group (k + width) (least - 1) (drop width fs) most)
-    groups_step k least most [] x e = let z : ◌≡◌ {A = ℕ} 0 1 = cc in absurd (omega arith)
+    groups_step k least most [] x e = cc
     groups_step k least most (f ∷ fs) x e = rw e
 
     further : (n k place : ℕ) → k + width + width * n + place ≡ k + width * suc n + place
@@ -127,8 +112,3 @@ module _ {X : Type 0} (width : ℕ) (group : List (List ℕ) → Result X ℕ) (
 
     pub passed_short : (k least most : ℕ) → true ≡ eqb (length rest) 0 → n < least → n ≤ most → Err (k + width * n) ≡ groups width group k least all most
     passed_short k least most t low high = sym (groups_short width group none n k least most all p.1 (empty rest (past width n all) p.0 t) low high)
-
--- some group is read where there is a field
-pub passed_some : {X : Type 0} (width : ℕ) (group : List (List ℕ) → Result X ℕ) (n : ℕ) (all rest : List (List ℕ)) → Passed width group n all rest → true ≡ eqb (length rest) 0 → 0 < length all → 1 ≤ n
-passed_some width group zero all rest p t some = let e = empty rest all p.0 t in absurd (omega (arith, ap length e))
-passed_some width group (suc n) all rest p t some = omega arith

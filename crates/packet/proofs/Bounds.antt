@@ -2,7 +2,7 @@
 --     bounded   its number is one of 16 bits, and it has 1 to 10 groups
 --     kept      each of its groups keeps its rule
 --     goes      its version goes with its command
-use Rattle.std.proofs.Common.{◌≡◌, ℕ, zero, suc, ◌+◌, ◌-◌, ◌<◌, ◌≤◌, Bool, true, false, cond, ◌&&◌, eqb, leb, List, [], ◌∷◌, length, drop, is_some, IfOk, Some, None, Ok, Err, codes, decimal, Option, Result, sym, refl, ap, ◌∙◌, subst, ⊎_elim, arith}
+use Rattle.std.proofs.Common.{◌≡◌, ℕ, zero, suc, ◌+◌, ◌-◌, ◌<◌, ◌≤◌, true, cond, ◌&&◌, eqb, leb, List, [], ◌∷◌, length, drop, is_some, Some, None, Ok, Err, codes, decimal, Option, Result, sym, refl, ap, ◌∙◌, subst, ⊎_elim, arith}
 use Rattle.std.specs.Option.{option_map}
 use Rattle.std.specs.Str.Parse.{digits_value}
 use Rattle.std.specs.List.{AllByRecursion}
@@ -37,21 +37,19 @@ use Rattle.packet.specs.Heads.{head_of, not_old, version_beside, Goes}
 use Rattle.packet.specs.Rules.{then, ruled, or_fault, is_word, sized_text, code_of, value_text}
 use Rattle.packet.specs.Groups.{index_group, write_group, code_group, reading_group, Readout, found, lacking, found_by, lacking_by, readout_by, or_within, in_front, groups, discovery_of, KeptWrite, KeptReadout}
 use Rattle.packet.specs.Messages.{Content, Message, read_request, write_request, discovery_request, read_answer, write_answer, discovery_answer, command_of, count_of, with_ok, content_by, message_by, after_head, after_frame, packet_of, Bounded, Kept}
-use Rattle.packet.specs.declared.packet.Packet.{Packet}
-use Rattle.packet.specs.Packets.{message_of, seen}
-use Rattle.packet.proofs.Pieces.{Piece, frame_pieces}
+use Rattle.packet.proofs.Pieces.{Piece, passed_on, frame_pieces}
 
 -- what a rule was made of
 pub then_some : {X Y : Type 0} (o : Option X) (rule : X → Option Y) (y : Y) → then o rule ≡ Some y → (x : X) × ((o ≡ Some x) × (rule x ≡ Some y))
-then_some None rule y e = let z : ◌≡◌ {A = ℕ} 0 1 = cc in absurd (omega arith)
+then_some None rule y e = cc
 then_some (Some x) rule y e = (x, (refl, e))
 
 pub no_fault : {X Y E : Type 0} (fault : E) (o : Option X) (next : X → Result Y E) (y : Y) → or_fault fault o next ≡ Ok y → (x : X) × ((o ≡ Some x) × (next x ≡ Ok y))
-no_fault fault None next y e = let z : ◌≡◌ {A = ℕ} 0 1 = cc in absurd (omega arith)
+no_fault fault None next y e = cc
 no_fault fault (Some x) next y e = (x, (refl, e))
 
 made_ok : {X Y E : Type 0} (f : X → Y) (r : Result X E) (y : Y) → with_ok f r ≡ Ok y → (x : X) × ((r ≡ Ok x) × (f x ≡ y))
-made_ok f (Err e) y h = let z : ◌≡◌ {A = ℕ} 0 1 = cc in absurd (omega arith)
+made_ok f (Err e) y h = cc
 made_ok f (Ok x) y h = (x, (refl, cc))
 
 ok_same : {X E : Type 0} (x y : X) → ◌≡◌ {A = Result X E} (Ok x) (Ok y) → x ≡ y
@@ -59,10 +57,6 @@ ok_same x y e = cc
 
 some_same : {X : Type 0} (x y : X) → Some x ≡ Some y → x ≡ y
 some_same x y e = cc
-
-passed_on : {X E : Type 0} (t : Bool) (r : Result X E) (e : E) (x : X) → cond t r (Err e) ≡ Ok x → (t ≡ true) × (r ≡ Ok x)
-passed_on true r e x h = (refl, h)
-passed_on false r e x h = let z : ◌≡◌ {A = ℕ} 0 1 = cc in absurd (omega arith)
 
 -- what a numeral is
 pub record Spelt (top : ℕ) (ds : List ℕ) (n : ℕ) : Type 0 where
@@ -76,7 +70,7 @@ spelt top ds n e =
     (λ t. let p = and_parts (whole ds) (leb (digits_value 10 ds) top) t in
     let is : digits_value 10 ds ≡ n = some_same (digits_value 10 ds) n (rw t at e) in
     record { digits = from_whole ds p.0; is = is; most = omega (arith, leb-true _ _ p.1) })
-    (λ t. let s : None ≡ Some n = rw t at e in let z : ◌≡◌ {A = ℕ} 0 1 = cc in absurd (omega arith))
+    (λ t. let s : None ≡ Some n = rw t at e in cc)
     (cases_Bool (whole ds && leb (digits_value 10 ds) top))
 
 ruled_numeral : (top : ℕ) (field : Option (List ℕ)) (n : ℕ) → ruled (numeral top) field ≡ Some n → n ≤ top
@@ -85,8 +79,8 @@ ruled_numeral top field n e = let p = then_some field (numeral top) n e in (spel
 module _ {X : Type 0} (width : ℕ) (group : List (List ℕ) → Result X ℕ) where
   -- how many groups are read
   few_step : (k least most : ℕ) (r : Result X ℕ) (s : Result (List X) ℕ) (xs : List X) → ((ys : List X) → s ≡ Ok ys → (least - 1 ≤ length ys) × (length ys ≤ most)) → or_within k r (λ x. in_front x s) ≡ Ok xs → (least ≤ length xs) × (length xs ≤ suc most)
-  few_step k least most (Err place) s xs h e = let z : ◌≡◌ {A = ℕ} 0 1 = cc in absurd (omega arith)
-  few_step k least most (Ok x) (Err field) xs h e = let z : ◌≡◌ {A = ℕ} 0 1 = cc in absurd (omega arith)
+  few_step k least most (Err place) s xs h e = cc
+  few_step k least most (Ok x) (Err field) xs h e = cc
   few_step k least most (Ok x) (Ok ys) xs h e =
       let p = h ys refl in
       let l : length (x ∷ ys) ≡ length xs = ap length (ok_same (x ∷ ys) xs e) in
@@ -98,7 +92,7 @@ module _ {X : Type 0} (width : ℕ) (group : List (List ℕ) → Result X ℕ) w
       let z : least ≡ 0 = eqb-true least 0 p.0 in
       let l : 0 ≡ length xs = ap length (ok_same [] xs p.1) in
       (omega arith, omega arith)
-  groups_few k least (f ∷ fs) zero xs e = let z : ◌≡◌ {A = ℕ} 0 1 = cc in absurd (omega arith)
+  groups_few k least (f ∷ fs) zero xs e = cc
   groups_few k least (f ∷ fs) (suc most) xs e =
       few_step k least most (group (f ∷ fs)) (groups width group (k + width) (least - 1) (drop width (f ∷ fs)) most) xs
       (λ ys h. groups_few (k + width) (least - 1) (drop width (f ∷ fs)) most ys h) e
@@ -106,21 +100,21 @@ module _ {X : Type 0} (width : ℕ) (group : List (List ℕ) → Result X ℕ) w
   -- each of them is read from fields that are the packet's
   module _ (P : X → Type 0) (one : (fs : List (List ℕ)) (x : X) → AllByRecursion Piece fs → group fs ≡ Ok x → P x) where
     each_step : (k : ℕ) (fs : List (List ℕ)) (r : Result X ℕ) (s : Result (List X) ℕ) (xs : List X) → group fs ≡ r → AllByRecursion Piece fs → ((ys : List X) → s ≡ Ok ys → AllByRecursion P ys) → or_within k r (λ x. in_front x s) ≡ Ok xs → AllByRecursion P xs
-    each_step k fs (Err place) s xs g a h e = let z : ◌≡◌ {A = ℕ} 0 1 = cc in absurd (omega arith)
-    each_step k fs (Ok x) (Err field) xs g a h e = let z : ◌≡◌ {A = ℕ} 0 1 = cc in absurd (omega arith)
+    each_step k fs (Err place) s xs g a h e = cc
+    each_step k fs (Ok x) (Err field) xs g a h e = cc
     each_step k fs (Ok x) (Ok ys) xs g a h e = subst (AllByRecursion P) (ok_same (x ∷ ys) xs e) (one fs x a g, h ys refl)
 
     pub groups_each : (k least : ℕ) (fs : List (List ℕ)) (most : ℕ) (xs : List X) → AllByRecursion Piece fs → groups width group k least fs most ≡ Ok xs → AllByRecursion P xs
     groups_each k least [] most xs a e =
         let p = passed_on (eqb least 0) (Ok []) k xs e in
         subst (AllByRecursion P) (ok_same [] xs p.1) tt
-    groups_each k least (f ∷ fs) zero xs a e = let z : ◌≡◌ {A = ℕ} 0 1 = cc in absurd (omega arith)
+    groups_each k least (f ∷ fs) zero xs a e = cc
     groups_each k least (f ∷ fs) (suc most) xs a e =
         each_step k (f ∷ fs) (group (f ∷ fs)) (groups width group (k + width) (least - 1) (drop width (f ∷ fs)) most) xs refl a
         (λ ys h. groups_each (k + width) (least - 1) (drop width (f ∷ fs)) most ys (All-drop Piece width (f ∷ fs) a) h) e
 
 first_all : {X : Type 0} (P : X → Type 0) (xs : List X) (x : X) → AllByRecursion P xs → first xs ≡ Some x → P x
-first_all P [] x a e = let z : ◌≡◌ {A = ℕ} 0 1 = cc in absurd (omega arith)
+first_all P [] x a e = cc
 first_all P (y ∷ xs) x a e = subst P (some_same y x e) a.0
 
 -- what the rules give
@@ -134,7 +128,7 @@ index_kept fs i e =
 sized_same : (field text : List ℕ) → sized_text field ≡ Some text → (sized field ≡ true) × (field ≡ text)
 sized_same field text e = ⊎_elim
     (λ t. let s : Some field ≡ Some text = rw t at e in (t, some_same field text s))
-    (λ t. let s : None ≡ Some text = rw t at e in let z : ◌≡◌ {A = ℕ} 0 1 = cc in absurd (omega arith))
+    (λ t. let s : None ≡ Some text = rw t at e in cc)
     (cases_Bool (sized field))
 
 piece_textual : (f : List ℕ) → Piece f → sized f ≡ true → textual f ≡ true
@@ -154,7 +148,7 @@ value_same : (kind : Kind) (field text : List ℕ) → value_text kind field ≡
 value_same kind field text e = split (value_read kind field) refl e
   where
     split : (o : Option Datum) → value_read kind field ≡ o → option_map (λ _. field) o ≡ Some text → is_some (value_read kind text) ≡ true
-    split None r e = let z : ◌≡◌ {A = ℕ} 0 1 = cc in absurd (omega arith)
+    split None r e = cc
     split (Some d) r e = ap (λ f. is_some (value_read kind f)) (sym (some_same field text e)) ∙ ap is_some r
 
 found_kept : (word text : Option (List ℕ)) (x : Readout) → found_by word text ≡ Ok x → KeptReadout x
@@ -236,13 +230,12 @@ goes_by : (command : Option (List ℕ)) (named v : Version) (m : ℕ) (c : Comma
 goes_by command named V11 m c e f g = tt
 goes_by command named V10 m Read e f g = tt
 goes_by command named V10 m Write e f g = tt
-goes_by command V11 V10 m Discovery e f g = let z : ◌≡◌ {A = ℕ} 0 1 = cc in absurd (omega arith)
+goes_by command V11 V10 m Discovery e f g = cc
 goes_by command V10 V10 m Discovery e f g =
     let p = then_some command (numeral 255) m f in
     let t : is_word (codes "3") command ≡ true = ap (is_word (codes "3")) p.1.0 ∙ three p.0 (p.1.1 ∙ ap Some (numbered_three m g)) in
     let n : None ≡ Some V10 = rw t at e in
-    let z : ◌≡◌ {A = ℕ} 0 1 = cc in
-    absurd (omega arith)
+    cc
 
 -- a head that is read
 record Headed (head : Head) : Type 0 where
@@ -273,18 +266,18 @@ pub parts : (bytes : List ℕ) (m : Message) → packet_of bytes ≡ Ok m → Pa
 parts bytes m e = framed_parts (fields_of bytes) refl e
   where
     with_content : (fs : List (List ℕ)) (head : Head) → AllByRecursion Piece fs → head_of fs ≡ Ok head → (r : Result Content ℕ) → content_by head.direction head.command (drop 4 fs) ≡ r → message_by head r ≡ Ok m → Parts m
-    with_content fs head a h (Err field) c e = let z : ◌≡◌ {A = ℕ} 0 1 = cc in absurd (omega arith)
+    with_content fs head a h (Err field) c e = cc
     with_content fs head a h (Ok content) c e =
         let s = ok_same (record { version = head.version; number = head.number; content = content }) m e in
         let t = ap (λ x. x.content) s in
         record { fields = fs; head = head; pieces = a; head_is = h; content_is = c ∙ ap Ok t; message_is = sym s ∙ ap (λ x. record { version = head.version; number = head.number; content = x }) t }
 
     with_head : (fs : List (List ℕ)) → AllByRecursion Piece fs → (r : Result Head Refusal) → head_of fs ≡ r → after_head (drop 4 fs) r ≡ Ok m → Parts m
-    with_head fs a (Err refusal) h e = let z : ◌≡◌ {A = ℕ} 0 1 = cc in absurd (omega arith)
+    with_head fs a (Err refusal) h e = cc
     with_head fs a (Ok head) h e = with_content fs head a h (content_by head.direction head.command (drop 4 fs)) refl e
 
     framed_parts : (r : Result (List (List ℕ)) Refusal) → fields_of bytes ≡ r → after_frame r ≡ Ok m → Parts m
-    framed_parts (Err refusal) f e = let z : ◌≡◌ {A = ℕ} 0 1 = cc in absurd (omega arith)
+    framed_parts (Err refusal) f e = cc
     framed_parts (Ok fs) f e = with_head fs (frame_pieces bytes fs f) (head_of fs) refl e
 
 module _ (bytes : List ℕ) (m : Message) (e : packet_of bytes ≡ Ok m) where
@@ -311,12 +304,3 @@ module _ (bytes : List ℕ) (m : Message) (e : packet_of bytes ≡ Ok m) where
       let v : p.head.version ≡ m.version = sym (ap (λ x. x.version) p.message_is) in
       let c : p.head.command ≡ command_of m.content = sym whole_payload.about in
       subst (λ x. Goes x (command_of m.content)) v (subst (Goes p.head.version) c h.goes)
-
--- the same of what reading gives
-pub read_bounded : (bytes : List ℕ) (r : Result Packet Refusal) → seen r ≡ packet_of bytes → IfOk r (λ p. Bounded (message_of p))
-read_bounded bytes (Err reason) e = tt
-read_bounded bytes (Ok p) e = bounded bytes (message_of p) (sym e)
-
-pub read_kept : (bytes : List ℕ) (r : Result Packet Refusal) → seen r ≡ packet_of bytes → IfOk r (λ p. Kept (message_of p).content)
-read_kept bytes (Err reason) e = tt
-read_kept bytes (Ok p) e = kept bytes (message_of p) (sym e)

@@ -81,12 +81,12 @@ fields_pieces bs p u = both (fields bs) (fields_free bs p) (from_behind (fields 
 
 -- what a test that was passed leaves
 passed_by : {X E : Type 0} (t : Bool) (e : E) (r : Result X E) (x : X) → cond t (Err e) r ≡ Ok x → r ≡ Ok x
-passed_by true e r x h = let z : ◌≡◌ {A = ℕ} 0 1 = cc in absurd (omega arith)
+passed_by true e r x h = cc
 passed_by false e r x h = h
 
-passed_on : {X E : Type 0} (t : Bool) (r : Result X E) (e : E) (x : X) → cond t r (Err e) ≡ Ok x → (t ≡ true) × (r ≡ Ok x)
+pub passed_on : {X E : Type 0} (t : Bool) (r : Result X E) (e : E) (x : X) → cond t r (Err e) ≡ Ok x → (t ≡ true) × (r ≡ Ok x)
 passed_on true r e x h = (refl, h)
-passed_on false r e x h = let z : ◌≡◌ {A = ℕ} 0 1 = cc in absurd (omega arith)
+passed_on false r e x h = cc
 
 inside_text : (bs : List ℕ) → framed bs ≡ true → utf8 bs ≡ true → IsUtf8 (inside bs)
 inside_text bs h t =

@@ -11,7 +11,7 @@ use Rattle.packet.specs.declared.writes.WriteGroup.{WriteGroup}
 use Rattle.packet.specs.declared.codes.CodeGroup.{CodeGroup}
 use Rattle.packet.specs.declared.readings.Found.{Found}
 use Rattle.packet.specs.declared.readings.ReadingGroup.{ReadingGroup}
-use Rattle.packet.specs.Rules.{then, with_ok}
+use Rattle.packet.specs.Rules.{then}
 use Rattle.packet.specs.Groups.{index_group, write_group, code_group, reading_group, Readout, found, lacking, ahead}
 
 -- an index and a text

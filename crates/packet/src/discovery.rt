@@ -8,7 +8,8 @@ use crate::rules::is_word;
 use field::fields::Fields;
 use field::part::Part;
 
-/// Reads the payload of a Discovery request, which is just the indices 2 and 3.
+/// Reads the payload of a Discovery request, which is just the indices 2 and 3, or tells the number of the first field
+/// at fault, as a refusal does.
 pub(crate) fn read_discovery(payload: Part<'_>) -> Result<(), u8>
     ensures { result ≡ discovery_of (fields (part_bytes payload.entry)) }
 {

@@ -70,6 +70,7 @@ impl<'a, G: Group<'a>> Groups<'a, G> {
             rest: Some(payload),
         };
         let mut rest = all;
+        // How many groups there are, which is what is to be found out, and no index.
         let mut count = 0;
         while !rest.is_empty() {
             if count == most {

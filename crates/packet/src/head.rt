@@ -25,16 +25,11 @@ pub struct Head {
 fn version_beside(command: Option<Part<'_>>, version: Option<Part<'_>>) -> Option<Version>
     ensures { result ≡ version_beside (option_map part_bytes command.entry) (option_map part_bytes version.entry) }
 {
-    match version?.text.parse().ok()? {
-        Version::V10 => {
-            if is_word(command, "3") {
-                None
-            } else {
-                Some(Version::V10)
-            }
-        }
-        Version::V11 => Some(Version::V11),
+    let version = version?.text.parse().ok()?;
+    if version == Version::V10 && is_word(command, "3") {
+        return None;
     }
+    Some(version)
 }
 
 /// The direction, if the field is there and names one.

@@ -45,12 +45,10 @@ impl<'a> Packet<'a> {
         ensures { result ≡ direction_of (message_of self.now).content }
     {
         match self.body {
-            Body::ReadRequest(_) => Direction::Request,
-            Body::WriteRequest(_) => Direction::Request,
-            Body::DiscoveryRequest => Direction::Request,
-            Body::ReadAnswer(_) => Direction::Answer,
-            Body::WriteAnswer(_) => Direction::Answer,
-            Body::DiscoveryAnswer(_) => Direction::Answer,
+            Body::ReadRequest(_) | Body::WriteRequest(_) | Body::DiscoveryRequest =>
+                Direction::Request,
+            Body::ReadAnswer(_) | Body::WriteAnswer(_) | Body::DiscoveryAnswer(_) =>
+                Direction::Answer,
         }
     }
 
@@ -59,12 +57,9 @@ impl<'a> Packet<'a> {
         ensures { result ≡ command_of (message_of self.now).content }
     {
         match self.body {
-            Body::ReadRequest(_) => Command::Read,
-            Body::WriteRequest(_) => Command::Write,
-            Body::DiscoveryRequest => Command::Discovery,
-            Body::ReadAnswer(_) => Command::Read,
-            Body::WriteAnswer(_) => Command::Write,
-            Body::DiscoveryAnswer(_) => Command::Discovery,
+            Body::ReadRequest(_) | Body::ReadAnswer(_) => Command::Read,
+            Body::WriteRequest(_) | Body::WriteAnswer(_) => Command::Write,
+            Body::DiscoveryRequest | Body::DiscoveryAnswer(_) => Command::Discovery,
         }
     }
 
@@ -76,9 +71,8 @@ impl<'a> Packet<'a> {
             Body::ReadRequest(indices) => indices.left,
             Body::WriteRequest(writes) => writes.left,
             Body::DiscoveryRequest => 2,
-            Body::ReadAnswer(readings) => readings.left,
+            Body::ReadAnswer(readings) | Body::DiscoveryAnswer(readings) => readings.left,
             Body::WriteAnswer(codes) => codes.left,
-            Body::DiscoveryAnswer(readings) => readings.left,
         }
     }
 
@@ -92,7 +86,7 @@ impl<'a> Packet<'a> {
     }
 }
 
-/// Reads the payload as direction and command say, or tells the first field at fault.
+/// Reads the payload as direction and command say, or tells the number of the first field at fault, as a refusal does.
 fn read_body<'a>(direction: Direction, command: Command, payload: Part<'a>) -> Result<Body<'a>, u8>
     ensures content { told_body result ≡ content_by direction command (fields (part_bytes payload.entry)) }
     ensures count { IfOk result Counted }
@@ -113,25 +107,6 @@ fn read_body<'a>(direction: Direction, command: Command, payload: Part<'a>) -> R
     })
 }
 
-/// Reads the fields of a packet.
-fn read_fields(all: Fields<'_>) -> Result<Packet<'_>, Refusal>
-    ensures read { seen result ≡ after_frame (Ok (fields_left all.entry)) }
-    ensures count { IfOk result (λ p. Counted p.body) }
-    ensures fields { IfOk result (λ p. fields_left p.fields ≡ fields_left all.entry) }
-    ensures place { IfOk result (λ p. (packet : List ℕ) → Within packet all.entry → PacketWithin packet p) }
-{
-    let mut fields = all;
-    let head = read_head(&mut fields)?;
-    let payload = fields.rest.ok_or(Refusal::Payload(4))?;
-    let body = read_body(head.direction, head.command, payload).map_err(Refusal::Payload)?;
-    Ok(Packet {
-        fields: all,
-        version: head.version,
-        number: head.number,
-        body,
-    })
-}
-
 /// Reads a packet, or tells the first ground on which it is refused.
 pub fn read_packet(bytes: &[u8]) -> Result<Packet<'_>, Refusal>
     ensures read { seen result ≡ packet_of bytes.now }
@@ -141,5 +116,16 @@ pub fn read_packet(bytes: &[u8]) -> Result<Packet<'_>, Refusal>
     ensures fields { IfOk result (λ p. Ok (fields_left p.fields) ≡ fields_of bytes.now) }
     ensures place { IfOk result (PacketWithin bytes.now) }
 {
-    read_fields(fields_of(bytes)?)
+    let all = fields_of(bytes)?;
+    let mut fields = all;
+    let head = read_head(&mut fields)?;
+    let payload = fields.rest.ok_or(Refusal::Payload(4))?;
+    let body = read_body(head.direction, head.command, payload).map_err(Refusal::Payload)?;
+    // The head's other two fields are told by which body it is.
+    Ok(Packet {
+        fields: all,
+        version: head.version,
+        number: head.number,
+        body,
+    })
 }

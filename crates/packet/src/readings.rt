@@ -31,31 +31,6 @@ pub struct ReadingGroup;
 /// The groups of a read answer that are still to come.
 pub type Readings<'a> = Groups<'a, ReadingGroup>;
 
-/// A type and a text that writes a value of it.
-fn found_by<'a>(word: Option<Part<'a>>, text: Option<Part<'a>>) -> Result<Found<'a>, u8>
-    ensures group { with_ok found_of result ≡ found_by (option_map part_bytes word.entry) (option_map part_bytes text.entry) }
-    ensures bound { IfErr result (λ place. place < 3) }
-    ensures place { IfOk result (λ x. Passes text.entry (Some x.text)) }
-{
-    let kind = kind_in(word).ok_or(1)?;
-    let text = value_in(kind, text).ok_or(2)?;
-    Ok(Found { kind, text })
-}
-
-/// A code that stands with Nil and 0.
-fn lacking_by(code: Code, word: Option<Part<'_>>, text: Option<Part<'_>>) -> Result<Code, u8>
-    ensures group { with_ok lacking result ≡ lacking_by code (option_map part_bytes word.entry) (option_map part_bytes text.entry) }
-    ensures bound { IfErr result (λ place. place < 3) }
-{
-    if !is_word(word, "Nil") {
-        return Err(1);
-    }
-    if !is_word(text, "0") {
-        return Err(2);
-    }
-    Ok(code)
-}
-
 /// The group that these three fields are, or the place of the first at fault.
 fn reading_by<'a>(
     code: Option<Part<'a>>,
@@ -66,10 +41,16 @@ fn reading_by<'a>(
     ensures bound { IfErr result (λ place. place < 3) }
     ensures place { IfOk result (λ x. Passes text.entry (reading_part x)) }
 {
-    Ok(match code_in(code).ok_or(0)? {
-        Code::Done => Ok(found_by(word, text)?),
-        code => Err(lacking_by(code, word, text)?),
-    })
+    match code_in(code).ok_or(0)? {
+        Code::Done => {
+            let kind = kind_in(word).ok_or(1)?;
+            let text = value_in(kind, text).ok_or(2)?;
+            Ok(Ok(Found { kind, text }))
+        }
+        _ if !is_word(word, "Nil") => Err(1),
+        _ if !is_word(text, "0") => Err(2),
+        code => Ok(Err(code)),
+    }
 }
 
 impl Width for ReadingGroup {

@@ -133,23 +133,15 @@ mod tests {
 ";
 
     fn is_ground(rt: &impl Abort, refusal: Refusal, number: &str, field: &str) -> Result<(), Fail> {
-        let Ok(number) = number.parse::<u8>() else {
-            return Err(Fail::new("no number"));
-        };
-        let Ok(field) = field.parse::<u8>() else {
-            return Err(Fail::new("no field"));
-        };
-        assert_eq!(rt; refusal.number(), number);
-        assert_eq!(rt; refusal.field().unwrap_or(0), field);
+        assert_eq!(rt; u8::from(refusal), number.parse::<u8>()?);
+        assert_eq!(rt; refusal.field().unwrap_or(0), field.parse::<u8>()?);
         Ok(())
     }
 
     fn reads(rt: &impl Abort, row: &str) -> Result<(), Fail> {
-        let mut words = row.split(' ');
-        let (Some(bytes), Some(number), Some(field)) = (words.next(), words.next(), words.next())
-        else {
-            return Err(Fail::new("a row has three words"));
-        };
+        let few = || Fail::new("a row has three words");
+        let (bytes, ground) = row.split_once(' ').ok_or_else(few)?;
+        let (number, field) = ground.split_once(' ').ok_or_else(few)?;
         match read_packet(bytes.as_bytes()) {
             Ok(_) => {
                 assert!(rt; number == "0");
@@ -168,13 +160,9 @@ mod tests {
     }
 
     fn refused(rt: &impl Abort, bytes: &[u8], number: u8) -> Result<(), Fail> {
-        match read_packet(bytes) {
-            Ok(_) => Err(Fail::new("read")),
-            Err(refusal) => {
-                assert_eq!(rt; refusal.number(), number);
-                Ok(())
-            },
-        }
+        let refusal = read_packet(bytes).err().ok_or_else(|| Fail::new("read"))?;
+        assert_eq!(rt; u8::from(refusal), number);
+        Ok(())
     }
 
     // Too long, not framed and not UTF-8, each before what comes later.

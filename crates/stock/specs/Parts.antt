@@ -32,7 +32,7 @@ abbrev pub plainly : {T : Type 0} → Result Contents (ℕ × T) → Result Cont
 plainly (Ok c) = Ok c
 plainly (Err p) = Err p.0
 
-told_plainly : {T : Type 0} (b : Bool) (r : Result Contents (ℕ × T)) (c : Contents) (s : T) → r ≡ cond b (Ok c) (Err (13, s)) → plainly r ≡ if_held b c
+pub told_plainly : {T : Type 0} (b : Bool) (r : Result Contents (ℕ × T)) (c : Contents) (s : T) → r ≡ cond b (Ok c) (Err (13, s)) → plainly r ≡ if_held b c
 told_plainly true r c s e = ap plainly e
 told_plainly false r c s e = ap plainly e
 

@@ -15,6 +15,8 @@ use protocol::kind::Kind;
 use store::store::Store;
 use value::value::Value;
 
+// Four matches, one for each call: behind a `dyn Store` no maker may hand a store out, and no closure takes stores of
+// four types.
 impl Store for AnyStore {
     ghost meaning = { contents };
 

@@ -68,11 +68,6 @@ reads_whole lo hi (c ∷ d ∷ cs) r f g b h =
       | inr n ↦ pos_case lo hi c (d ∷ cs) r g (grind (arith, nat_tests)) (grind (arith, nat_tests)) h
     ]
 
-pub reads_none : (lo hi : ℤ) (bs : List ℕ) → begins bs ≡ false → whole_of lo hi bs ≡ None
-reads_none lo hi [] b = refl
-reads_none lo hi (c ∷ []) b = grind (arith, nat_tests)
-reads_none lo hi (c ∷ d ∷ cs) b = grind (arith, nat_tests)
-
 plain_from : (ds : List ℕ) → all_ascii_digits ds ≡ true → 0 < length ds → (get_or ds 0 0 ≡ 48 → length ds ≡ 1) → plain ds ≡ true
 plain_from [] a l o = absurd (omega arith)
 plain_from (c ∷ cs) a l o = grind (arith, nat_tests)

@@ -12,11 +12,6 @@ answer_read-requires g c = received_counted (message_of c.args.request) (indices
 pub answer_write-requires : goal.answer_write-requires
 answer_write-requires g c = received_counted (message_of c.args.request) (writes_ahead c.in-WriteRequest.writes) c.requires (ap (λ b. count_of (content_of b)) c.in-WriteRequest.is)
 
-pub returns-in-DiscoveryRequest : goal.returns-in-DiscoveryRequest
-returns-in-DiscoveryRequest g c =
-    let m = g.S.Store.meaning c.args.store.now in
-    let content = ap content_of c.in-DiscoveryRequest.is in
-    record {
-      answer = discovery_carries m (message_of c.args.request) c.answer_discovery.result c.args.row.now c.answer_discovery.new.row c.requires content c.answer_discovery.ensures;
-      after = sym (ap (left_by m) content);
-    }
+pub returns-in-DiscoveryRequest-clause-answer : goal.returns-in-DiscoveryRequest-clause-answer
+returns-in-DiscoveryRequest-clause-answer g c =
+    discovery_carries (g.S.Store.meaning c.args.store.now) (message_of c.args.request) c.answer_discovery.result c.args.row.now c.answer_discovery.new.row c.requires (ap content_of c.in-DiscoveryRequest.is) c.answer_discovery.ensures

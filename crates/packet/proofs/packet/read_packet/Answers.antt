@@ -1,22 +1,27 @@
-use Rattle.std.proofs.Common.{Ok, ap, ◌∙◌}
-use Rattle.std.proofs.lemmas.Result.{MatchResult-weaker}
-use Rattle.field.specs.Parts.{fields_left}
-use Rattle.packet.specs.Messages.{after_frame}
-use Rattle.packet.proofs.Bounds.{read_bounded, read_kept}
+use Rattle.std.proofs.Common.{◌≡◌, Some, Ok, rules, sym, subst, arith}
+use Rattle.std.proofs.lemmas.Result.{IfOk-at_ok}
+use Rattle.field.specs.Parts.{Found}
+use Rattle.field.proofs.Results.{ok_of}
+use Rattle.packet.specs.declared.packet.Packet.{Packet}
+use Rattle.packet.specs.Messages.{packet_of}
+use Rattle.packet.specs.Packets.{seen}
+use Rattle.packet.proofs.Bounds.{bounded, kept}
 use Rattle.packet.proofs.packet.read_packet.Goals as goal
 
 pub returns : goal.returns
 returns c =
     let bytes = c.args.bytes.now in
-    let r = c.read_fields.result in
-    let all = c.in_ok-fields_of.ensures in
-    let told = c.read_fields.ensures in
-    let read = told.read ∙ ap after_frame {x = Ok (fields_left c.in_ok-fields_of.field-0)} all.fields in
+    let all = c.in_ok-all.ensures in
+    let head = c.in_ok-head.head in
+    let p : Packet = record { fields = c.in_ok-all.all; version = head.version; number = head.number; body = c.in_ok-body.body } in
+    let read : seen (Ok p) ≡ packet_of bytes = search rules in
+    let rest : c.read_head.new.fields.rest ≡ Some c.in_ok-payload.payload = grind arith in
+    let body = ok_of _ _ c.read_body.result c.in_ok-body.body c.in_ok-body.ensures.cases c.in_ok-body.ensures.variant in
     record {
       read = read;
-      count = told.count;
-      bounds = read_bounded bytes r read;
-      kept = read_kept bytes r read;
-      fields = MatchResult-weaker r told.fields (λ p e. ap Ok e ∙ all.fields) (λ _ u. u);
-      place = MatchResult-weaker r told.place (λ p h. h bytes all.place) (λ _ u. u);
+      count = IfOk-at_ok _ body c.read_body.ensures.count;
+      bounds = bounded bytes _ (sym read);
+      kept = kept bytes _ (sym read);
+      fields = all.fields;
+      place = (all.place, IfOk-at_ok _ body c.read_body.ensures.place bytes (subst (Found bytes) rest (c.read_head.ensures.onward bytes all.place)));
     }

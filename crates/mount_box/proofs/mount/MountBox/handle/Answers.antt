@@ -9,21 +9,6 @@ use Rattle.mount_box.proofs.Promised.{served, responded, refused_so}
 use Rattle.mount_box.proofs.Served.{found_out}
 use Rattle.mount_box.proofs.mount.MountBox.handle.Goals as goal
 
-pub returns-then-slab-lt8192 : goal.returns-then-slab-lt8192
-returns-then-slab-lt8192 g c =
-    let b = box_of g.S.Store.meaning c.args.self.now c.args.slab.now c.args.reply.now in
-    let e : outcome (Err ShortMemory) b ≡ handled b c.args.sender c.args.packet.now = search rules in
-    let k = refused_so b c.args.sender c.args.packet.now (Err ShortMemory) ShortMemory refl e in
-    record { handled = k.handled; repeat = k.repeat; groups = k.groups; others = k.others; back = k.back }
-
-pub returns-in_err-request : goal.returns-in_err-request
-returns-in_err-request g c =
-    let b = box_of g.S.Store.meaning c.args.self.now c.args.slab.now c.args.reply.now in
-    let p = err_from_is_err_and c.from_residual.result c.from_residual.ensures.1 in
-    let e : outcome c.from_residual.result b ≡ handled b c.args.sender c.args.packet.now = search rules in
-    let k = refused_so b c.args.sender c.args.packet.now c.from_residual.result p.0 p.1 e in
-    record { handled = k.handled; repeat = k.repeat; groups = k.groups; others = k.others; back = k.back }
-
 pub returns-in-ReadRequest : goal.returns-in-ReadRequest
 returns-in-ReadRequest g c =
     let b = box_of g.S.Store.meaning c.args.self.now c.args.slab.now c.args.reply.now in

@@ -1,4 +1,4 @@
-use Rattle.std.proofs.Common.{sym, ap, ◌∙◌, arith}
+use Rattle.std.proofs.Common.{ap, ◌∙◌, arith}
 use Rattle.field.specs.Fields.{fields}
 use Rattle.field.specs.Parts.{part_bytes, fields_left}
 use Rattle.packet.specs.Groups.{groups}

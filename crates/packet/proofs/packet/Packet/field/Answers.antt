@@ -1,5 +1,3 @@
-use Rattle.std.proofs.Common.{subst}
-use Rattle.field.specs.Fields.{first}
 use Rattle.packet.proofs.Steps.{field_at}
 use Rattle.packet.proofs.packet.Packet.field.Goals as goal
 
