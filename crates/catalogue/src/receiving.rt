@@ -19,7 +19,7 @@ impl Waiting {
         ensures { result ≡ agrees self (message_of answer.now) }
     {
         self.number == answer.number
-            && self.command.number() == answer.command().number()
+            && self.command == answer.command()
             && self.count == answer.count()
     }
 }
@@ -32,7 +32,7 @@ impl Catalogue {
         ensures after { self.new ≡ (by_content self.old sender (message_of answer.now) (message_of answer.now).content).after }
         ensures refused { OnErr result (self.new ≡ self.old) }
     {
-        if let Direction::Request = answer.direction() {
+        if answer.direction() == Direction::Request {
             return Err(Refusal::Direction);
         }
         let k = self.partner_at(sender).ok_or(Refusal::Unknown)?;
