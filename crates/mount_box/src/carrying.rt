@@ -51,6 +51,7 @@ fn answer_read<S: Store>(
     requires { counted (indices_ahead indices) ≡ true }
     ensures { Answers (answered version number (read_answer (map (shown (S.meaning store.now)) (indices_ahead indices.entry)))) result row.old row.new }
 {
+    // An array and no `ArrayVec`, which starts empty only where its items have a default.
     let mut readings = [Err(Code::NotFound); 10];
     let readings = &mut readings[..indices.count()];
     read_all(store, indices, readings);
@@ -69,6 +70,7 @@ fn answer_write<S: Store>(
     ensures answer { Answers (answered version number (write_answer (write_codes (S.meaning store.old) (writes_ahead writes.entry)))) result row.old row.new }
     ensures after { S.meaning store.new ≡ after_writes (S.meaning store.old) (writes_ahead writes.entry) }
 {
+    // An array for the same reason: no code is one by default.
     let mut codes = [Code::NotFound; 10];
     let codes = &mut codes[..writes.count()];
     write_all(store, writes, codes);
