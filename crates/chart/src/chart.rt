@@ -54,7 +54,8 @@ pub struct UnusedRow {
     pub trouble: RowTrouble,
 }
 
-/// The stars of the rows that are used, in order.
+/// The stars of the rows that are used, in order. A name is sought along the list, which the star rows take as it is: a map
+/// from names to places would be a second list to keep in step with it.
 #[derive(Drop)]
 pub struct Chart {
     pub stars: Vec<Star>,
@@ -110,10 +111,10 @@ impl Chart {
         }
         match judge_row(&self.stars, line) {
             Ok(star) => self.stars.push(star)?,
-            Err(trouble) => {
-                let line = number;
-                unused.push(UnusedRow { line, trouble })?;
-            }
+            Err(trouble) => unused.push(UnusedRow {
+                line: number,
+                trouble,
+            })?,
         }
         Ok(())
     }

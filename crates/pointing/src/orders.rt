@@ -47,6 +47,7 @@ fn read_order(heap: Global, bytes: &[u8]) -> Result<String, AllocError> {
 /// Prints the request of one target, and what a mount reads in it.
 fn print_order(rt: &HostRuntime, number: u16, target: &Target) -> io::Result<()> {
     let line = target.line;
+    // The writer takes its caller's row, since a station has no heap; what it fills is a slice at once.
     let mut row = [0u8; 512];
     match write_order(&mut row, number, &target.star) {
         Ok(packet) => {

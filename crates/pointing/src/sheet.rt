@@ -1,11 +1,14 @@
 //! The sheet as it is printed.
 use crate::texts::Printable;
-use crate::wishes::{Target, Wishes};
+use crate::wishes::{Miss, Target, Wishes};
 use chart::chart::UnusedRow;
 use stars::rows::StarRows;
 use std::alloc::{AllocError, Global};
 use std::io;
 use store::store::Store;
+
+/// The head of the column of names.
+const NAME: &str = "name (St)";
 
 /// Prints what became of the rows of a file: how many are used, and which are not.
 pub fn print_tally(
@@ -24,10 +27,10 @@ pub fn print_tally(
 
 /// How many characters the longest name of a target has, at least as many as the head of its column.
 fn name_width(heap: Global, targets: &[Target]) -> Result<usize, AllocError> {
-    let mut width = 9;
+    let mut width = NAME.len();
     for target in targets {
         let name = Printable(&target.star.name()).to_string(heap)?;
-        width = name.as_str().chars().count().max(width);
+        width = width.max(name.as_str().chars().count());
     }
     Ok(width)
 }
@@ -78,8 +81,7 @@ fn print_target(
 /// Prints the targets.
 fn print_targets(rt: &HostRuntime, rows: &StarRows, targets: &[Target]) -> io::Result<()> {
     let width = name_width(rt.alloc(), targets)?;
-    let name = "name (St)";
-    println!(rt; "line  index  {name:<width$}  right ascension (In)       declination (In)")?;
+    println!(rt; "line  index  {NAME:<width$}  right ascension (In)       declination (In)")?;
     for target in targets {
         print_target(rt, rows, target, width)?;
         match first_line(targets, target) {
@@ -105,9 +107,7 @@ pub fn print_rest(rt: &HostRuntime, wishes: &Wishes) -> io::Result<()> {
     let others = wishes.misses.len();
     if others > 0 {
         println!(rt; "\nNot ready")?;
-        for miss in &wishes.misses {
-            let line = miss.line;
-            let trouble = miss.trouble;
+        for Miss { line, trouble } in &wishes.misses {
             println!(rt; "line {line:>4}  {trouble}")?;
         }
     }
