@@ -23,7 +23,9 @@ use Rattle.mount_box.specs.Promises.{Repeats, Groupwise, Groups, Others, ReadsAt
 use Rattle.mount_box.specs.Views.{outcome}
 use Rattle.mount_box.proofs.Answering.{length_codes}
 use Rattle.mount_box.proofs.Finding.{due_for, known_by, noted_again}
-use Rattle.mount_box.proofs.Placed.{length_put, piece_put, put_outside}
+use Rattle.mount_box.proofs.Placed.{put_outside}
+use Rattle.slab_rows.proofs.Written.{piece_put}
+use Rattle.protocol.proofs.Writes.{length_put}
 use Rattle.mount_box.proofs.Replies.{reply_back, reply_size}
 use Rattle.mount_box.proofs.Served.{handled_long, orders_ask}
 use Rattle.mount_box.proofs.Ways.{Handles, handles, stopped, again, done, told}
@@ -99,7 +101,7 @@ module _ (b : Box) (sender : ℕ) (packet : List ℕ) (sound : Sound b.contents)
       let after = (carried b sender w k (reply_bytes b w)).after in
       let number : n.number ≡ w.number = e ∙ ap (λ x. x.number) (same_message packet m w p t) in
       let in' : k < 16 = d.inside in
-      let long : short after ≡ false = ap (λ l. ltb l 8192 || ltb (length b.reply) 512) (length_put b.slab (reply_bytes b w) (512 * k) (f.in_row k in')) ∙ s in
+      let long : short after ≡ false = ap (λ l. ltb l 8192 || ltb (length b.reply) 512) (length_put b.slab (512 * k) (reply_bytes b w) (f.in_row k in')) ∙ s in
       let at : get_or after.records k blank ≡ noted sender w.number len = get_or-set_same b.records k (noted sender w.number len) blank (omega arith) in
       repeat_kept after sender k q n long r u (ap (standing after.records sender) number ∙ noted_again b.records sender w.number sixteen k len d)
       ∙ (λ i. record { answer = Ok (Slab (512 * k) (length_of (at i))); after = after })

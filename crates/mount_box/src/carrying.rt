@@ -70,7 +70,7 @@ fn answer_write<S: Store>(
     ensures answer { Answers (answered version number (write_answer (write_codes (S.meaning store.old) (writes_ahead writes.entry)))) result row.old row.new }
     ensures after { S.meaning store.new ≡ after_writes (S.meaning store.old) (writes_ahead writes.entry) }
 {
-    // An array for the same reason: no code is one by default.
+    // An array here too: a code has no default either.
     let mut codes = [Code::NotFound; 10];
     let codes = &mut codes[..writes.count()];
     write_all(store, writes, codes);
