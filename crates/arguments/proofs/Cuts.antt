@@ -33,7 +33,7 @@ cut_some mark bs i h clear e =
     rw (take_rest bs (i + 1), add-one) (cut_here mark bs i h clear e)
 
 -- what a reader that gave a value read
-is_some : {X E : Type 0} (o : Option X) (t : E) (x : X) → Ok x ≡ ok_or o t → o ≡ Some x
+pub is_some : {X E : Type 0} (o : Option X) (t : E) (x : X) → Ok x ≡ ok_or o t → o ≡ Some x
 is_some {E = E} None t x e = cc
 is_some (Some y) t x e = cc
 

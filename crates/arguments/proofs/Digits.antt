@@ -1,13 +1,16 @@
 -- Numerals in a word, against what `parse` reads.
-use Rattle.std.proofs.Common.{◌≡◌, ℕ, ◌^◌, ◌<◌, ◌≤◌, cond, leb, List, length, get_or, Some, None, Ok, Err, IsUtf8, Result, sym, ap, ◌∙◌, ⊎_elim, arith, MatchResult}
-use Rattle.std.specs.Str.Parse.{ParsesUnsigned}
+use Rattle.std.proofs.Common.{◌≡◌, ℕ, nat_le, ◌≤◌, cond, List, length, Some, None, Ok, Err, IsUtf8, Result, sym, ◌∙◌, arith, MatchResult, IsErrAnd}
+use Rattle.std.specs.Option.{option_map}
+use Rattle.notation.specs.declared.trouble.Trouble.{Trouble}
+use Rattle.notation.specs.declared.trouble.Trouble.TheVariants.{NotUnderstood}
+use Rattle.std.specs.Result.{result_ok}
+use Rattle.std.proofs.lemmas.Bool.Decides.{nat_tests}
 use Rattle.std.proofs.lemmas.Str.Ascii.{IsAscii-from_reads}
-use Rattle.std.proofs.lemmas.Str.Parse.{digit_at, parse_plain}
-use Rattle.std.proofs.lemmas.Bool.{cases_lt, le-leb, lt-leb}
+use Rattle.std.proofs.lemmas.Str.Parse.{digit_at}
 use Rattle.std.proofs.lemmas.Str.{IsUtf8-from_ascii}
 use Rattle.protocol.proofs.Digits.{own}
 use Rattle.field.specs.Numerals.{numeral}
-use Rattle.field.proofs.Digits.{Whole, numeral_some, numeral_none}
+use Rattle.field.proofs.Digits.{Whole, numeral_none}
 
 -- digits are characters
 whole_utf8 : (bs : List ℕ) → Whole bs → IsUtf8 bs
@@ -17,18 +20,12 @@ whole_utf8 bs w = IsUtf8-from_ascii bs (IsAscii-from_reads bs (length bs) (omega
 pub no_text : (top : ℕ) (bs : List ℕ) → (IsUtf8 bs → ⊥) → numeral top bs ≡ None
 no_text top bs h = numeral_none top bs (λ w _. h (whole_utf8 bs w))
 
--- what `parse::<u64>` says of a text with no plus and no leading zero in front
-parse_is : {E : Type 0} (top : ℕ) (bs : List ℕ) (r : Result ℕ E) → ParsesUnsigned 64 10 bs r → (get_or bs 0 0 ≡ 43 → ⊥) → (get_or bs 0 0 ≡ 48 → length bs ≤ 1) → top < 2 ^ 64 → MatchResult r (λ n. numeral top bs ≡ cond (leb n top) (Some n) None) (λ _. numeral top bs ≡ None)
-parse_is {E = E} top bs (Ok n) h plus lead t =
-    let p = parse_plain own {E = E} 64 bs (Ok n) h plus in
-    ⊎_elim
-    (λ l. let m = lt-leb n top l in rw m (numeral_none top bs (λ _ f. omega (arith, p.1))))
-    (λ l. let m = le-leb n top l in rw m (numeral_some top bs (record { digits = p.0.0; some = p.0.1; lead = lead }) (omega (arith, p.1)) ∙ ap Some (sym p.1)))
-    (cases_lt top n)
-parse_is {E = E} top bs (Err e) h plus lead t =
-    let p = parse_plain own {E = E} 64 bs (Err e) h plus in
-    numeral_none top bs (λ k f. p (k.digits, k.some, omega arith))
+-- a number that is read up to one end, read up to a lower one
+pub narrower : (most top n : ℕ) (word : List ℕ) → most ≤ top → numeral top word ≡ Some n → numeral most word ≡ cond (nat_le n most) (Some n) None
+narrower most top n word h e = grind (arith, nat_tests)
 
--- the same of the text that the bytes are
-pub parse_of : {E : Type 0} (top : ℕ) (text bs : List ℕ) (r : Result ℕ E) → text ≡ bs → ParsesUnsigned 64 10 text r → (get_or bs 0 0 ≡ 43 → ⊥) → (get_or bs 0 0 ≡ 48 → length bs ≤ 1) → top < 2 ^ 64 → MatchResult r (λ n. numeral top bs ≡ cond (leb n top) (Some n) None) (λ _. numeral top bs ≡ None)
-parse_of {E = E} top text bs r e h = parse_is {E = E} top bs r (rw e at h)
+-- what comes of its conversion
+pub converted : {T E : Type 0} (view : T → ℕ) (most n : ℕ) (word : List ℕ) (q : Result T E) (r : Result T Trouble) (Post : E → Trouble → Type 0) → MatchResult q (λ x. r ≡ Ok x) (λ d. IsErrAnd r (Post d)) → ((d : E) (e : Trouble) → Post d e → e ≡ NotUnderstood) → numeral most word ≡ cond (nat_le n most) (Some n) None → option_map view (result_ok q) ≡ cond (nat_le n most) (Some n) None → MatchResult r (λ x. numeral most word ≡ Some (view x)) (λ e. (e ≡ NotUnderstood) × (numeral most word ≡ None))
+converted view most n word (Ok x) r Post h u m o = rw h (m ∙ sym o)
+converted view most n word (Err d) (Ok x) Post h u m o = absurd h
+converted view most n word (Err d) (Err e) Post h u m o = (u d e h, m ∙ sym o)

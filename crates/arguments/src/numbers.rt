@@ -1,65 +1,76 @@
-//! Numbers and types. A number is spelled as the protocol spells whole numbers, and lies in the range of its place.
-ghost use Rattle.std.specs.Prelude.{◌≡◌, ◌≤◌, IfSome};
-ghost use Rattle.std.specs.Option.{ok_or};
-ghost use Rattle.std.specs.Result.{result_map_both};
+//! Numbers and types. A number is spelled as the protocol spells whole numbers, and lies in the range of its type.
+ghost use Rattle.std.specs.Prelude.{◌≡◌, ◌≤◌, ℕ, Some, None, Result, MatchResult, if◌then◌else◌, nat_le};
+ghost use Rattle.std.specs.Option.{ok_or, option_map};
+ghost use Rattle.std.specs.Result.{result_map_both, result_ok};
+ghost use Rattle.std.proofs.Common.{lit≤};
 ghost use Rattle.protocol.specs.Words.{kind_named};
 ghost use Rattle.protocol.specs.declared.kind.Kind.TheVariants as K;
 ghost use Rattle.value.specs.Values.{whole, value_read};
 ghost use Rattle.field.specs.Numerals.{numeral};
 ghost use Rattle.notation.specs.declared.trouble.Trouble.TheVariants.{NotUnderstood};
+ghost use Rattle.arguments.specs.Converts.{converts_up_to};
 
+use field::number::number;
 use notation::trouble::Trouble;
 use protocol::kind::Kind;
 use std::str::from_utf8;
 use value::read::read_value;
 use value::value::Value;
 
-/// The whole number without a sign that a word spells, if it is at most `top`.
-fn natural(word: &[u8], top: u64) -> Option<u64>
-    ensures value { result ≡ numeral top word.now }
-    ensures bound { IfSome result (λ n. n ≤ top) }
-{
-    if word.is_empty() {
-        return None;
-    }
-    let first = word[0];
-    if first == b'+' || first == b'0' && word.len() > 1 {
-        return None;
-    }
-    let Ok(text) = from_utf8(word) else {
-        return None;
-    };
-    match text.parse::<u64>() {
-        Ok(n) => { if n <= top { Some(n) } else { None } }
-        Err(_) => None,
-    }
+/// A type of whole numbers without a sign.
+pub trait Natural: TryFrom<u64> {
+    // The greatest of them.
+    ghost most: { ℕ };
+
+    // The number that a value is.
+    ghost number: { Self → ℕ };
+
+    // It has 64 bits at most.
+    ghost narrow: { most ≤ 18446744073709551615 };
+
+    // Just the numbers up to the greatest convert.
+    ghost converts: { (n : ℕ) (r : Result Self Self.Error) → Self.try_from_gives n r → option_map number (result_ok r) ≡ (if nat_le n most then Some n else None) };
 }
 
-/// An index: 0 to 65535.
-pub fn read_index(word: &[u8]) -> Result<u16, Trouble>
-    ensures { result ≡ ok_or (numeral 65535 word.now) NotUnderstood }
-{
-    match natural(word, 65535) {
-        Some(n) => Ok(n as u16),
-        None => Err(Trouble::NotUnderstood),
-    }
+impl Natural for u16 {
+    ghost most = { 65535 };
+
+    ghost number = { λ n. n };
+
+    ghost narrow = { lit≤ tt };
+
+    ghost converts = { converts_up_to 65535 };
 }
 
-/// An address, a partner or a setting of a catalogue: 0 to 4294967295.
-pub fn read_address(word: &[u8]) -> Result<u32, Trouble>
-    ensures { result ≡ ok_or (numeral 4294967295 word.now) NotUnderstood }
-{
-    match natural(word, 4_294_967_295) {
-        Some(n) => Ok(n as u32),
-        None => Err(Trouble::NotUnderstood),
-    }
+impl Natural for u32 {
+    ghost most = { 4294967295 };
+
+    ghost number = { λ n. n };
+
+    ghost narrow = { lit≤ tt };
+
+    ghost converts = { converts_up_to 4294967295 };
 }
 
-/// A time: 0 to 18446744073709551615.
-pub fn read_time(word: &[u8]) -> Result<u64, Trouble>
-    ensures { result ≡ ok_or (numeral 18446744073709551615 word.now) NotUnderstood }
+impl Natural for u64 {
+    ghost most = { 18446744073709551615 };
+
+    ghost number = { λ n. n };
+
+    ghost narrow = { lit≤ tt };
+
+    ghost converts = { converts_up_to 18446744073709551615 };
+}
+
+/// A number that a word spells: an index is a `u16`, an address, a partner or a setting of a catalogue a `u32`, and a time
+/// a `u64`.
+pub fn read_number<T: Natural>(word: &[u8]) -> Result<T, Trouble>
+where
+    T::Error: Drop,
+    ensures { MatchResult result (λ n. numeral T.most word.now ≡ Some (T.number n)) (λ e. (e ≡ NotUnderstood) × (numeral T.most word.now ≡ None)) }
 {
-    natural(word, u64::MAX).ok_or(Trouble::NotUnderstood)
+    let number = number(from_utf8(word)?, u64::MAX).ok_or(Trouble::NotUnderstood)?;
+    T::try_from(number).map_err(|_| Trouble::NotUnderstood)
 }
 
 /// An angle in milliarcseconds, as a value of type In.

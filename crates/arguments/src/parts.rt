@@ -4,7 +4,7 @@ ghost use Rattle.std.specs.Option.{option_map};
 ghost use Rattle.arguments.specs.Parts.{cut_at, three_of, fixed_of, item_of, item, star_of, star, change_of, change};
 ghost use Rattle.notation.specs.Readings.{Understood};
 
-use crate::numbers::{read_angle, read_index, read_kind};
+use crate::numbers::{read_angle, read_kind, read_number};
 use notation::strings::decode;
 use notation::trouble::Trouble;
 use protocol::kind::Kind;
@@ -69,7 +69,7 @@ pub fn read_item(heap: Global, word: &[u8]) -> Result<ItemWord, Trouble>
     let (index, kind, rest) = three_parts(word).ok_or(Trouble::NotUnderstood)?;
     let (text, fixed) = fixed_text(rest).ok_or(Trouble::NotUnderstood)?;
     Ok(ItemWord {
-        index: read_index(index)?,
+        index: read_number(index)?,
         kind: read_kind(kind)?,
         text: decode(heap, text)?,
         fixed,
@@ -94,7 +94,7 @@ pub fn read_change(heap: Global, word: &[u8]) -> Result<ChangeWord, Trouble>
 {
     let (index, text) = cut(word, b'=').ok_or(Trouble::NotUnderstood)?;
     Ok(ChangeWord {
-        index: read_index(index)?,
+        index: read_number(index)?,
         text: decode(heap, text)?,
     })
 }

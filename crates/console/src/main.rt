@@ -3,9 +3,6 @@
 #![tactic(auto)]
 
 mod commands;
-mod packets;
-mod trouble;
-mod words;
 
 use commands::answer_all;
 use std::io;
@@ -14,6 +11,6 @@ use std::io::{Read, Write};
 fn main(rt: HostRuntime) -> io::Result<()> {
     let mut script = Vec::new(rt.alloc());
     rt.stdin().read_to_end(&mut script)?;
-    let answers = answer_all(rt.alloc(), script.as_slice())?;
-    rt.stdout().write_all(answers.as_slice())
+    let answers = answer_all(rt.alloc(), &script)?;
+    rt.stdout().write_all(answers.as_bytes())
 }

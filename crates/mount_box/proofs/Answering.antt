@@ -1,13 +1,21 @@
 -- Answers that a writer wrote.
---     read_answers, write_answers, who_answers   from what a store gave
+--     read_answers, who_answers                  from what a store gave
 --     length_codes                               a code for each write
+--     front_counted                              as many places as a cursor counts
 --     received_counted                           a message that was received has 1 to 10 groups
 --     discovery_carries                          Discovery is answered in version 1.1
-use Rattle.std.proofs.Common.{◌≡◌, ℕ, suc, ◌≤◌, Bool, true, false, cond, not, ◌&&◌, eqb, List, [], ◌∷◌, map, length, Some, None, Ok, Err, Option, Result, sym, refl, ap, ◌∙◌, subst, ap₂, arith}
-use Rattle.std.proofs.lemmas.List.{length-map}
-use Rattle.std.proofs.lemmas.Bool.{and_from, le-ltb, le-leb}
+use Rattle.std.proofs.Common.{◌≡◌, ℕ, suc, ◌≤◌, Bool, true, false, cond, not, ◌&&◌, eqb, List, [], ◌∷◌, map, length, Some, None, Ok, Err, Option, Result, sym, refl, ap, ◌∙◌, subst, ap₂, arith, take, leb}
+use Rattle.std.proofs.lemmas.List.{length-map, length-take-le}
+use Rattle.std.specs.Iterator.{Drains}
+use Rattle.std.proofs.lemmas.Iterator.{YieldsList}
+use Rattle.std.proofs.lemmas.Iterator.Consumers.{count_from_yields_List, YieldsList-from_shown}
+use Rattle.field.specs.declared.part.Part.{Part}
+use Rattle.packet.specs.declared.groups.Groups.{Groups}
+use Rattle.packet.specs.Cursors.{HandsOut}
+use Rattle.std.proofs.lemmas.Bool.{and_from, and_parts, leb-true, le-leb}
 use Rattle.protocol.specs.Words.{code_number}
 use Rattle.protocol.specs.declared.code.Code.{Code}
+use Rattle.protocol.specs.declared.code.Code.TheVariants as C
 use Rattle.protocol.specs.declared.refusal.Refusal.{Refusal}
 use Rattle.value.specs.declared.value.Value.{Value}
 use Rattle.field.specs.declared.words.Version.{Version}
@@ -16,17 +24,27 @@ use Rattle.field.specs.declared.words.Command.{Command}
 use Rattle.field.specs.declared.words.Command.TheVariants.{Read, Write, Discovery}
 use Rattle.packet.specs.Heads.{Goes}
 use Rattle.packet.specs.Groups.{Readout, found, lacking}
-use Rattle.packet.specs.Messages.{Message, discovery_request, read_answer, write_answer, discovery_answer, command_of, count_of}
+use Rattle.packet.specs.Messages.{Message, discovery_request, read_answer, discovery_answer, command_of, count_of}
 use Rattle.packet.proofs.Bounds.{bounded, goes}
-use Rattle.writer.specs.Bytes.{bytes_of}
 use Rattle.writer.specs.Orders.{counted, readout_of, told, all_told, readings_allowed, answered}
-use Rattle.writer.specs.Written.{written, at_start}
+use Rattle.writer.specs.Written.{written}
 use Rattle.store.specs.Contents.{Contents, Element, inside, refused, reading, read_of}
 use Rattle.store.specs.Contents as contents
 use Rattle.store.specs.Owner.{write_text_of}
 use Rattle.mount_box.specs.Answers.{Received, Answers, Carries}
-use Rattle.mount_box.specs.Carrying.{shown_by, shown, write_codes, who}
-use Rattle.mount_box.proofs.Turns.{read_shown}
+use Rattle.mount_box.specs.Carrying.{coded, shown_by, shown, write_codes, who}
+
+-- the code with the number of a code
+coded_back : (code : Code) → coded (code_number code) ≡ code
+coded_back C.Done = refl
+coded_back C.NotFound = refl
+coded_back C.WrongType = refl
+coded_back C.OutsideLimits = refl
+
+-- what a read gave is shown
+read_shown : (c : Contents) (i : ℕ) (r : Result Value Code) → reading r ≡ read_of c i → readout_of r ≡ shown c i
+read_shown c i (Ok v) e = ap (λ x. shown_by x.value x.code) e
+read_shown c i (Err code) e = ap lacking (sym (coded_back code)) ∙ ap (λ x. shown_by x.value x.code) e
 
 -- a value, or a code other than 0
 abbrev Tells : Readout → Bool
@@ -62,6 +80,21 @@ all_shown c (r ∷ rs) (i ∷ is) e =
 counted_as : {X Y : Type 0} (xs : List X) (ys : List Y) → length xs ≡ length ys → counted xs ≡ true → counted ys ≡ true
 counted_as xs ys e h = rw e at h
 
+few : {X : Type 0} (xs : List X) → counted xs ≡ true → length xs ≤ 10
+few xs h = leb-true (length xs) 10 (and_parts (leb 1 (length xs)) (leb (length xs) 10) h).1
+
+-- a cursor yields what it has ahead
+yields_ahead : {G A X : Type 0} (said : A → X) (part : A → Option Part) (ahead : Groups G → List X) (c : Groups G) → YieldsList (HandsOut said part ahead) said c (ahead c)
+yields_ahead said part ahead c = YieldsList-from_shown (HandsOut said part ahead) said ahead (λ s t h. ap length h.0.0) (λ s x t h. h.0) c
+
+-- so as many places as it counts are as many as there are groups
+pub front_counted : {G A X Y : Type 0} (said : A → X) (part : A → Option Part) (ahead : Groups G → List X) (c : Groups G) (n : ℕ) (places : List Y) → 10 ≤ length places → counted (ahead c) ≡ true
+    → (xs : List A) × Drains (HandsOut said part ahead) c xs × (n ≡ length xs) → length (take n places) ≡ length (ahead c)
+front_counted said part ahead c n places room h ran =
+    let all = count_from_yields_List c n ran (yields_ahead said part ahead c) in
+    let l = few (ahead c) h in
+    length-take-le n places (omega arith) ∙ all
+
 -- what reads in a store gave can be written
 shown_allowed : (c : Contents) (rs : List (Result Value Code)) (is : List ℕ) → map readout_of rs ≡ map (shown c) is → counted is ≡ true → readings_allowed rs ≡ true
 shown_allowed c rs is e h =
@@ -78,9 +111,6 @@ pub length_codes : (c : Contents) (ws : List (ℕ × List ℕ)) → length (writ
 length_codes c [] = refl
 length_codes c (w ∷ ws) = ap suc (length_codes (write_text_of c w.0 w.1).after ws)
 
-codes_counted : (c : Contents) (cs : List Code) (ws : List (ℕ × List ℕ)) → cs ≡ write_codes c ws → counted ws ≡ true → counted cs ≡ true
-codes_counted c cs ws e h = counted_as ws cs (sym (ap length e ∙ length_codes c ws)) h
-
 module _ (c : Contents) (version : Version) (number : ℕ) (r : Result ℕ Refusal) (before after : List ℕ) where
   -- the answer to a read
   pub read_answers : (rs : List (Result Value Code)) (is : List ℕ) → map readout_of rs ≡ map (shown c) is → counted is ≡ true
@@ -90,15 +120,6 @@ module _ (c : Contents) (version : Version) (number : ℕ) (r : Result ℕ Refus
   read_answers rs is e h t w =
       answers_from (readings_allowed rs) (answered version number (read_answer (map readout_of rs))) (answered version number (read_answer (map (shown c) is))) r before after
       (shown_allowed c rs is e h) (ap (λ xs. answered version number (read_answer xs)) e) t w
-
-  -- the answer to a write
-  pub write_answers : (cs : List Code) (ws : List (ℕ × List ℕ)) → cs ≡ write_codes c ws → counted ws ≡ true
-      → r ≡ (written (counted cs) (answered version number (write_answer cs)) before).told
-      → after ≡ (written (counted cs) (answered version number (write_answer cs)) before).row
-      → Answers (answered version number (write_answer (write_codes c ws))) r before after
-  write_answers cs ws e h t w =
-      answers_from (counted cs) (answered version number (write_answer cs)) (answered version number (write_answer (write_codes c ws))) r before after
-      (codes_counted c cs ws e h) (ap (λ xs. answered version number (write_answer xs)) e) t w
 
   -- the answer to Discovery
   pub who_answers : (x y : Result Value Code) → reading x ≡ read_of c 2 → reading y ≡ read_of c 3

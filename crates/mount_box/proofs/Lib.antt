@@ -1,4 +1,3 @@
-pub mod Turns
 pub mod Answering
 pub mod Replies
 pub mod Served

@@ -3,7 +3,7 @@
 --     in_room        in a row that is long enough the reply stands at the start
 --     due_served     a request that was due
 --     found_out      Discovery
-use Rattle.std.proofs.Common.{◌≡◌, ℕ, ◌+◌, ◌-◌, ◌*◌, ◌<◌, ◌≤◌, true, false, cond, List, ◌++◌, length, take, drop, set, Ok, Option, Result, sym, refl, ap, ◌∙◌, subst, zero-add, arith}
+use Rattle.std.proofs.Common.{◌≡◌, ℕ, ◌+◌, ◌-◌, ◌*◌, ◌<◌, ◌≤◌, true, false, cond, List, ◌++◌, length, take, drop, set, Ok, Err, Option, Result, sym, refl, ap, ◌∙◌, subst, zero-add, arith}
 use borrow.Rule.Slice.PartMut.{put_mid}
 use Rattle.protocol.specs.Rows.{put_at}
 use Rattle.protocol.specs.declared.refusal.Refusal.{Refusal}
@@ -51,14 +51,26 @@ in_room m r before after room a =
     let is : written true m before ≡ at_start (bytes_of m) before = rw (le-ltb (length before) 512 room) in
     (a.told ∙ ap (λ x. x.told) is, a.row ∙ ap (λ x. x.row) is)
 
+-- a row of the slab, which is long enough
+row_long : (k : ℕ) (slab : List ℕ) → k < 16 → 8192 ≤ length slab → 512 ≤ length (take (512 * k + 512 - 512 * k) (drop (512 * k) slab))
+row_long k slab h room = simp (length-take, length-drop) (omega arith)
+
+-- a request is not refused there
+pub not_refused : (c : Contents) (m : Message) (k : ℕ) (reason : Refusal) (slab row : List ℕ) (s : Standing) → Orders m.content → record_of (standing_of s) < 16 → s ≡ Due k → 8192 ≤ length slab
+    → Carries c m (Err reason) (take (512 * k + 512 - 512 * k) (drop (512 * k) slab)) row → ⊥
+not_refused c m k reason slab row s o in' is room a =
+    let h : k < 16 = subst (λ x. record_of (standing_of x) < 16) is in' in
+    let part = take (512 * k + 512 - 512 * k) (drop (512 * k) slab) in
+    let w = in_room (reply_to c m) (Err reason) part row (row_long k slab h room) (carries_answers c m (Err reason) part row (orders_ask m.content o) a) in
+    let t = w.0 in cc
+
 -- the row that the reply went to, put back
 row_served : (c : Contents) (m : Message) (k n : ℕ) (slab row : List ℕ) → Sound c → Received m → Orders m.content → k < 16 → 8192 ≤ length slab → Carries c m (Ok n) (take (512 * k + 512 - 512 * k) (drop (512 * k) slab)) row
     → (n ≡ length (bytes_of (reply_to c m))) × (put_mid (512 * k) (512 * k + 512 - 512 * k) slab row ≡ rowed slab k (bytes_of (reply_to c m)))
 row_served c m k n slab row ok p o h room a =
     let d = orders_ask m.content o in
     let part = take (512 * k + 512 - 512 * k) (drop (512 * k) slab) in
-    let long : 512 ≤ length part = simp (length-take, length-drop) (omega arith) in
-    let w = in_room (reply_to c m) (Ok n) part row long (carries_answers c m (Ok n) part row d a) in
+    let w = in_room (reply_to c m) (Ok n) part row (row_long k slab h room) (carries_answers c m (Ok n) part row d a) in
     let same : n ≡ length (bytes_of (reply_to c m)) = let t = w.0 in cc in
     let size : length (bytes_of (reply_to c m)) ≤ 485 = reply_size c ok p.0 m p.1 in
     (same, part_written (512 * k) (512 * k + 512 - 512 * k) slab (bytes_of (reply_to c m)) row (omega arith) (omega arith) w.1)

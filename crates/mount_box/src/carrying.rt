@@ -1,5 +1,5 @@
 //! Carrying out a request: its groups in order, and the answer with one group for each.
-ghost use Rattle.std.specs.Prelude.{◌≡◌, ◌≤◌, true, map, length, take};
+ghost use Rattle.std.specs.Prelude.{◌≡◌, true, map, length};
 ghost use Rattle.packet.specs.Cursors.{indices_ahead, writes_ahead};
 ghost use Rattle.packet.specs.Messages.{read_answer, write_answer};
 ghost use Rattle.packet.specs.Packets.{message_of};
@@ -19,37 +19,25 @@ use store::store::Store;
 use value::value::Value;
 use writer::answers::{write_discovery_answer, write_read_answer, write_write_answer};
 
-/// Reads each index in the store, and tells how many there were.
-fn read_all<S: Store>(
-    store: &S,
-    mut indices: Indices<'_>,
-    readings: &mut [Result<Value, Code>],
-) -> usize
-    requires { length (indices_ahead indices) ≤ length readings.old }
-    ensures count { result ≡ length (indices_ahead indices.entry) }
-    ensures readings { map readout_of (take result readings.new) ≡ map (shown (S.meaning store.now)) (indices_ahead indices.entry) }
+/// Reads each index in the store, in order.
+fn read_all<S: Store>(store: &S, indices: Indices<'_>, readings: &mut [Result<Value, Code>])
+    requires { length readings.old ≡ length (indices_ahead indices) }
+    ensures { map readout_of readings.new ≡ map (shown (S.meaning store.now)) (indices_ahead indices.entry) }
 {
-    let mut count = 0;
-    while let Some(index) = indices.next_index() {
-        readings[count] = store.read(index);
-        count += 1;
+    for (k, index) in indices.enumerate() {
+        readings[k] = store.read(index);
     }
-    count
 }
 
-/// Writes each text to the store, and tells how many there were.
-fn write_all<S: Store>(store: &mut S, mut writes: Writes<'_>, codes: &mut [Code]) -> usize
-    requires { length (writes_ahead writes) ≤ length codes.old }
-    ensures count { result ≡ length (writes_ahead writes.entry) }
-    ensures codes { take result codes.new ≡ write_codes (S.meaning store.old) (writes_ahead writes.entry) }
+/// Writes each text to the store, in order, and tells the codes.
+fn write_all<S: Store>(store: &mut S, writes: Writes<'_>, codes: &mut [Code])
+    requires { length codes.old ≡ length (writes_ahead writes) }
+    ensures codes { codes.new ≡ write_codes (S.meaning store.old) (writes_ahead writes.entry) }
     ensures after { S.meaning store.new ≡ after_writes (S.meaning store.old) (writes_ahead writes.entry) }
 {
-    let mut count = 0;
-    while let Some(write) = writes.next_write() {
-        codes[count] = write_text(store, write.index, write.text.text.as_bytes());
-        count += 1;
+    for (k, write) in writes.enumerate() {
+        codes[k] = write_text(store, write.index, write.text.text.as_bytes());
     }
-    count
 }
 
 /// Answers a read request at the front of the row.
@@ -63,9 +51,11 @@ fn answer_read<S: Store>(
     requires { counted (indices_ahead indices) ≡ true }
     ensures { Answers (answered version number (read_answer (map (shown (S.meaning store.now)) (indices_ahead indices.entry)))) result row.old row.new }
 {
+    // An array and no `ArrayVec`, which starts empty only where its items have a default.
     let mut readings = [Err(Code::NotFound); 10];
-    let count = read_all(store, indices, &mut readings);
-    write_read_answer(row, version, number, &readings[..count])
+    let readings = &mut readings[..indices.count()];
+    read_all(store, indices, readings);
+    write_read_answer(row, version, number, readings)
 }
 
 /// Carries out a write request, and answers it at the front of the row.
@@ -80,9 +70,11 @@ fn answer_write<S: Store>(
     ensures answer { Answers (answered version number (write_answer (write_codes (S.meaning store.old) (writes_ahead writes.entry)))) result row.old row.new }
     ensures after { S.meaning store.new ≡ after_writes (S.meaning store.old) (writes_ahead writes.entry) }
 {
+    // An array for the same reason: no code is one by default.
     let mut codes = [Code::NotFound; 10];
-    let count = write_all(store, writes, &mut codes);
-    write_write_answer(row, version, number, &codes[..count])
+    let codes = &mut codes[..writes.count()];
+    write_all(store, writes, codes);
+    write_write_answer(row, version, number, codes)
 }
 
 /// Answers a Discovery request at the front of the row.

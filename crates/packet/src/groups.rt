@@ -1,10 +1,10 @@
 //! The groups of a payload, and a cursor over them.
 ghost use Rattle.std.specs.Prelude.{◌≡◌, ℕ, ◌<◌, ◌≤◌, List, [], length, drop, IfOk, IfErr, OnOk, Err, Option, Result};
-ghost use Rattle.std.specs.Iterator.{YieldsFirstBy, item_count};
+ghost use Rattle.std.specs.Iterator.{item_count};
 ghost use Rattle.field.specs.declared.part.Part.{Part};
 ghost use Rattle.field.specs.Fields.{fields};
 ghost use Rattle.field.specs.Parts.{part_bytes, fields_left, Hands, Onward};
-ghost use Rattle.packet.specs.Rules.{then, with_ok, Keeps};
+ghost use Rattle.packet.specs.Rules.{with_ok, Keeps};
 ghost use Rattle.packet.specs.Groups.{groups};
 ghost use Rattle.packet.specs.Cursors.{groups_ahead, HandsOut};
 

@@ -3,8 +3,8 @@ ghost use Rattle.std.specs.Prelude.{◌≡◌, ℕ, List, drop, IfOk, Ok};
 ghost use Rattle.std.specs.Option.{option_map};
 ghost use Rattle.field.specs.Fields.{fields, first};
 ghost use Rattle.field.specs.Frames.{fields_of};
-ghost use Rattle.field.specs.Parts.{part_bytes, fields_left, Stands, Within, Hands};
-ghost use Rattle.packet.specs.Messages.{direction_of, command_of, Bounded, Kept, content_by, after_frame, packet_of};
+ghost use Rattle.field.specs.Parts.{part_bytes, fields_left, Stands, Hands};
+ghost use Rattle.packet.specs.Messages.{direction_of, command_of, Bounded, Kept, content_by, packet_of};
 ghost use Rattle.packet.specs.Packets.{message_of, told_body, seen, body_count, Counted, BodyWithin, PacketWithin};
 
 use crate::codes::Codes;

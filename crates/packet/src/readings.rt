@@ -1,11 +1,11 @@
 //! The payload of a read or Discovery answer: a code, a type and a value in each group.
-ghost use Rattle.std.specs.Prelude.{◌≡◌, ◌<◌, refl, IfOk, IfErr, Some};
+ghost use Rattle.std.specs.Prelude.{◌≡◌, ◌<◌, refl, IfOk, IfErr};
 ghost use Rattle.std.specs.Option.{option_map};
 ghost use Rattle.std.proofs.Common.{lit≤};
 ghost use Rattle.field.specs.Parts.{part_bytes};
 ghost use Rattle.packet.specs.Rules.{with_ok, Passes};
-ghost use Rattle.packet.specs.Groups.{Readout, found_by, lacking, lacking_by, reading_by, reading_group};
-ghost use Rattle.packet.specs.Cursors.{found_of, readout_of, reading_part};
+ghost use Rattle.packet.specs.Groups.{Readout, reading_by, reading_group};
+ghost use Rattle.packet.specs.Cursors.{readout_of, reading_part};
 
 use crate::groups::{Group, Groups, Width};
 use crate::rules::{code_in, is_word, kind_in, value_in};

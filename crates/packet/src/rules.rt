@@ -32,7 +32,7 @@ pub(crate) fn text_in<'a>(field: Option<Part<'a>>) -> Option<Part<'a>>
     ensures text { option_map part_bytes result ≡ ruled sized_text (option_map part_bytes field.entry) }
     ensures place { Passes field.entry result }
 {
-    field.filter(|part| 1 <= part.text.len() && part.text.len() <= 40)
+    field.filter(|part| (1..=40).contains(&part.text.len()))
 }
 
 /// The answer code that the field spells.

@@ -1,6 +1,6 @@
 //! What is sent to the mount: a write request for each target.
 use crate::wishes::Target;
-use packet::packet::{Body, Packet, read_packet};
+use packet::packet::{Body, read_packet};
 use protocol::refusal::Refusal;
 use sky::star::Star;
 use std::alloc::{AllocError, Global};
@@ -35,13 +35,10 @@ fn write_order<'a>(row: &'a mut [u8; 512], number: u16, star: &Star) -> Result<&
 fn read_order(heap: Global, bytes: &[u8]) -> Result<String, AllocError> {
     let mut told = String::new(heap);
     if let Ok(packet) = read_packet(bytes)
-        && let Body::WriteRequest(writes) = packet.body
+        && let Body::WriteRequest(groups) = packet.body
     {
-        let mut groups = writes;
-        for _k in 0..packet.count() {
-            if let Some(group) = groups.next_write() {
-                write!(told, " {}={}", group.index, group.text.text)?;
-            }
+        for group in groups {
+            write!(told, " {}={}", group.index, group.text.text)?;
         }
     }
     Ok(told)
@@ -58,10 +55,7 @@ fn print_order(rt: &HostRuntime, number: u16, target: &Target) -> io::Result<()>
             let read = read_order(rt.alloc(), packet)?;
             println!(rt; "      reads:{read}")
         }
-        Err(refusal) => {
-            let ground = refusal.number();
-            println!(rt; "{line:>4}  refused {ground}")
-        }
+        Err(refusal) => println!(rt; "{line:>4}  {refusal}"),
     }
 }
 

@@ -51,10 +51,7 @@ fn first_index(row: usize) -> u16 {
 fn held(heap: Global, rows: &StarRows, index: u16) -> Result<String, AllocError> {
     match rows.read(index) {
         Ok(value) => Printable(&value.spelling()).to_string(heap),
-        Err(code) => {
-            let number = code.number();
-            format!(in heap; "code {number}")
-        }
+        Err(code) => format!(in heap; "code {}", u8::from(code)),
     }
 }
 

@@ -2,12 +2,10 @@
 --     first_position           `first_by` and the library's `position_or_len` are one
 --     place_found              what a search gave is the place that `position` tells
 --     first_some, first_none   what `position` tells of `first_by`
---     first_here, first_more, first_all   a search by hand, at its place i: found, passed on, and at the end
-use Rattle.std.proofs.Common.{◌≡◌, ℕ, suc, ◌+◌, ◌<◌, ◌≤◌, Bool, true, false, cond, ltb, List, length, get_or, drop, position, Some, None, Option, IfNone, IfSome, sym, refl, ap, ◌∙◌, arith}
+use Rattle.std.proofs.Common.{◌≡◌, ℕ, ◌<◌, ◌≤◌, Bool, true, false, cond, ltb, List, length, get_or, position, Some, None, Option, IfNone, IfSome, sym, refl, ap, ◌∙◌, arith}
 use Rattle.std.specs.Option.{option_map}
 use Rattle.std.specs.List.{position_or_len}
 use Rattle.std.proofs.lemmas.Bool.{lt-ltb, le-ltb, ltb-true, ltb-false, cond-true, cond-false}
-use Rattle.std.proofs.lemmas.List.{at_drop_more, at_drop_all}
 use Rattle.std.proofs.lemmas.List.Recursion.{is_position_or_len}
 use Rattle.std.proofs.lemmas.List.Sums.{position_or_len_is}
 use Rattle.slab_rows.specs.Searches.{first_by}
@@ -45,20 +43,3 @@ module _ {X : Type 0} (p : X → Bool) (xs : List X) where
       let e = position_or_len_is p xs (f a) d (omega arith) s.2 (λ h. s.1) in
       let t = lt-ltb (position_or_len p xs) (length xs) (omega arith) in
       sym (cond-true _ _ _ t ∙ ap Some e)
-
-pub first_here : {X : Type 0} (p : X → Bool) (xs : List X) (i : ℕ) (d : X) → i < length xs → i + first_by p (drop i xs) ≡ first_by p xs → p (get_or xs i d) ≡ true → i ≡ first_by p xs
-first_here p xs i d h inv t =
-    let e = at_drop_more (first_by p) xs i d h in
-    let z : cond (p (get_or xs i d)) 0 (suc (first_by p (drop (i + 1) xs))) ≡ 0 = rw t in
-    omega (arith, e, z)
-
-pub first_more : {X : Type 0} (p : X → Bool) (xs : List X) (i : ℕ) (d : X) → i < length xs → i + first_by p (drop i xs) ≡ first_by p xs → p (get_or xs i d) ≡ false → i + 1 + first_by p (drop (i + 1) xs) ≡ first_by p xs
-first_more p xs i d h inv t =
-    let e = at_drop_more (first_by p) xs i d h in
-    let z : cond (p (get_or xs i d)) 0 (suc (first_by p (drop (i + 1) xs))) ≡ suc (first_by p (drop (i + 1) xs)) = rw t in
-    omega (arith, e, z)
-
-pub first_all : {X : Type 0} (p : X → Bool) (xs : List X) (i : ℕ) → i ≡ length xs → i + first_by p (drop i xs) ≡ first_by p xs → length xs ≡ first_by p xs
-first_all p xs i h inv =
-    let e : first_by p (drop i xs) ≡ 0 = at_drop_all (first_by p) xs i (omega arith) in
-    omega (arith, e)

@@ -6,10 +6,7 @@ use store::house::HouseRecord;
 
 /// The text of these bytes.
 pub fn text(bytes: &[u8]) -> Result<Text, Fail> {
-    match Text::new(bytes) {
-        Some(text) => Ok(text),
-        None => Err(Fail::new("no text")),
-    }
+    Text::new(bytes).ok_or_else(|| Fail::new("no text"))
 }
 
 /// The house record with the serial S7 and the identifier dome-3.

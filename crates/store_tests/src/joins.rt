@@ -10,10 +10,7 @@ use store::store::Store;
 
 /// The two as one.
 fn join<L: Store + Drop, U: Store + Drop>(lower: L, upper: U) -> Result<Joined<L, U>, Fail> {
-    match Joined::new(lower, upper) {
-        Ok(both) => Ok(both),
-        Err(_) => Err(Fail::new("not joined")),
-    }
+    Joined::new(lower, upper).map_err(|_| Fail::new("not joined"))
 }
 
 /// Checks that the two are turned down by 13, and that both come back as they were.
@@ -24,15 +21,13 @@ fn refused<L: Store + Drop, U: Store + Drop>(
     firsts: &str,
     seconds: &str,
 ) -> Result<(), Fail> {
-    match Joined::new(first, second) {
-        Ok(_) => Err(Fail::new("joined")),
-        Err(rejected) => {
-            assert!(rt; rejected.refusal.number() == 13);
-            let (mut first, mut second) = rejected.given;
-            holds(rt, &mut first, firsts)?;
-            holds(rt, &mut second, seconds)
-        }
-    }
+    let Err(rejected) = Joined::new(first, second) else {
+        return Err(Fail::new("joined"));
+    };
+    assert!(rt; u8::from(rejected.refusal) == 13);
+    let (mut first, mut second) = rejected.given;
+    holds(rt, &mut first, firsts)?;
+    holds(rt, &mut second, seconds)
 }
 
 // A house record and a shelf from 150 to 160, with a gap from 100 to 149.

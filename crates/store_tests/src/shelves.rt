@@ -1,64 +1,51 @@
 //! The shelf.
-use crate::table::{holds, value};
-use protocol::kind::Kind;
+use crate::table::{Row, holds};
 use shelf::shelf::Shelf;
 use shelf::slot::Slot;
-use std::alloc::Global;
+use std::alloc::{AllocError, Global};
 use std::process::Abort;
 use std::test::Fail;
 use value::value::Value;
 
 /// The slot of a row `INDEX TYPE TEXT` or `INDEX TYPE TEXT fixed`.
-fn slot(row: &str) -> Result<Slot, Fail> {
-    let mut words = row.split(' ');
-    let (Some(index), Some(kind), Some(text)) = (words.next(), words.next(), words.next()) else {
-        return Err(Fail::new("a slot has three words or four"));
-    };
-    let Some(kind) = Kind::named(kind) else {
-        return Err(Fail::new("no type"));
-    };
-    let fixed = words.next().is_some();
-    Ok(Slot::new(index.parse::<u16>()?, value(kind, text)?, fixed))
+fn slot(line: &str) -> Result<Slot, Fail> {
+    let mut row = Row::new(line);
+    let index = row.number()?;
+    let value = row.value()?;
+    Ok(Slot::new(index, value, row.next().is_some()))
 }
 
 /// The slots of a table.
 fn slots(heap: Global, table: &str) -> Result<Vec<Slot>, Fail> {
-    let mut slots = Vec::new(heap);
-    for row in table.lines() {
-        slots.push(slot(row)?)?;
-    }
-    Ok(slots)
+    table.lines().map(|line| slot(line)).try_collect(heap)
 }
 
 /// The shelf of a table.
 pub fn shelf(heap: Global, low: u16, high: u16, table: &str) -> Result<Shelf, Fail> {
-    match Shelf::new(low, high, slots(heap, table)?) {
-        Ok(shelf) => Ok(shelf),
-        Err(_) => Err(Fail::new("no shelf")),
-    }
+    Shelf::new(low, high, slots(heap, table)?).map_err(|_| Fail::new("no shelf"))
 }
 
-/// Checks that a shelf of the table is turned down by 13 and that all its slots come back.
-fn refused(rt: &impl Abort, heap: Global, low: u16, high: u16, table: &str) -> Result<(), Fail> {
-    let slots = slots(heap, table)?;
+/// Checks that a shelf of the slots is turned down by 13 and that all of them come back.
+fn turned_down(rt: &impl Abort, low: u16, high: u16, slots: Vec<Slot>) -> Result<(), Fail> {
     let count = slots.len();
-    match Shelf::new(low, high, slots) {
-        Ok(_) => Err(Fail::new(table)),
-        Err(rejected) => {
-            assert!(rt; rejected.refusal.number() == 13);
-            assert!(rt; rejected.given.len() == count);
-            Ok(())
-        }
-    }
+    let Err(rejected) = Shelf::new(low, high, slots) else {
+        return Err(Fail::new("a shelf"));
+    };
+    assert!(rt; u8::from(rejected.refusal) == 13);
+    assert!(rt; rejected.given.len() == count);
+    Ok(())
+}
+
+/// Checks that a shelf of the table is turned down.
+fn refused(rt: &impl Abort, heap: Global, low: u16, high: u16, table: &str) -> Result<(), Fail> {
+    turned_down(rt, low, high, slots(heap, table)?)
 }
 
 /// So many slots with the indices from 0 on.
-fn run(heap: Global, count: u16) -> Result<Vec<Slot>, Fail> {
-    let mut slots = Vec::new(heap);
-    for index in 0..count {
-        slots.push(Slot::new(index, Value::By(0), false))?;
-    }
-    Ok(slots)
+fn run(heap: Global, count: u16) -> Result<Vec<Slot>, AllocError> {
+    (0..count)
+        .map(|index| Slot::new(index, Value::By(0), false))
+        .collect(heap)
 }
 
 const SLOTS: &str = "\
@@ -204,11 +191,5 @@ fn refusals(rt: HostRuntime) -> Result<(), Fail> {
 #[test]
 fn counts(rt: HostRuntime) -> Result<(), Fail> {
     assert!(rt; Shelf::new(0, 999, run(rt.alloc(), 256)?).is_ok());
-    match Shelf::new(0, 999, run(rt.alloc(), 257)?) {
-        Ok(_) => Err(Fail::new("257 are too many")),
-        Err(rejected) => {
-            assert!(rt; rejected.refusal.number() == 13 && rejected.given.len() == 257);
-            Ok(())
-        },
-    }
+    turned_down(&rt, 0, 999, run(rt.alloc(), 257)?)
 }

@@ -9,32 +9,25 @@ use std::test::Fail;
 
 /// A star.
 fn star(name: &str, ascension: i32, declination: i32) -> Result<Star, Fail> {
-    match Star::new(text(name.as_bytes())?, ascension, declination) {
-        Ok(star) => Ok(star),
-        Err(_) => Err(Fail::new("no star")),
-    }
+    Star::new(text(name.as_bytes())?, ascension, declination).map_err(|_| Fail::new("no star"))
+}
+
+/// The star rows of these stars.
+fn rows(stars: Vec<Star>) -> Result<StarRows, Fail> {
+    StarRows::new(stars).map_err(|_| Fail::new("no rows"))
 }
 
 /// Three stars, two of them at the ends of both angles.
 pub fn three(heap: Global) -> Result<StarRows, Fail> {
-    let mut stars = Vec::new(heap);
-    stars.push(star("Vega", 1005845042, 139621284)?)?;
-    stars.push(star("south", 0, -324000000)?)?;
-    stars.push(star("north", 1295999999, 324000000)?)?;
-    match StarRows::new(stars) {
-        Ok(rows) => Ok(rows),
-        Err(_) => Err(Fail::new("no rows")),
-    }
+    let vega = star("Vega", 1005845042, 139621284)?;
+    let south = star("south", 0, -324000000)?;
+    let north = star("north", 1295999999, 324000000)?;
+    rows(vec![in heap; vega, south, north]?)
 }
 
 /// So many stars of one name.
 fn many(heap: Global, count: u16) -> Result<Vec<Star>, Fail> {
-    let star = star("x", 1, -1)?;
-    let mut stars = Vec::new(heap);
-    for _ in 0..count {
-        stars.push(star)?;
-    }
-    Ok(stars)
+    (0..count).map(|_| star("x", 1, -1)).try_collect(heap)
 }
 
 const TABLE: &str = "\
@@ -84,38 +77,32 @@ fn table(rt: HostRuntime) -> Result<(), Fail> {
 
 #[test]
 fn one_row(rt: HostRuntime) -> Result<(), Fail> {
-    match StarRows::new(many(rt.alloc(), 1)?) {
-        Ok(mut rows) => holds(
-            &rt,
-            &mut rows,
-            "limits 100 102\nread 102 0 In -1\nread 103 3",
-        ),
-        Err(_) => Err(Fail::new("one row is enough")),
-    }
+    let mut rows = rows(many(rt.alloc(), 1)?)?;
+    holds(
+        &rt,
+        &mut rows,
+        "limits 100 102\nread 102 0 In -1\nread 103 3",
+    )
 }
 
 #[test]
 fn most_rows(rt: HostRuntime) -> Result<(), Fail> {
-    match StarRows::new(many(rt.alloc(), 20_000)?) {
-        Ok(mut rows) => holds(
-            &rt,
-            &mut rows,
-            "limits 100 60099\nread 60097 0 St x\nread 60098 0 In 1\nread 60099 0 In -1\nread 60100 3",
-        ),
-        Err(_) => Err(Fail::new("20,000 rows are not too many")),
-    }
+    let mut rows = rows(many(rt.alloc(), 20_000)?)?;
+    holds(
+        &rt,
+        &mut rows,
+        "limits 100 60099\nread 60097 0 St x\nread 60098 0 In 1\nread 60099 0 In -1\nread 60100 3",
+    )
 }
 
 /// Checks that so many rows are turned down by 13 and come back.
 fn refused(rt: &impl Abort, heap: Global, count: u16) -> Result<(), Fail> {
-    match StarRows::new(many(heap, count)?) {
-        Ok(_) => Err(Fail::new("none, or too many")),
-        Err(rejected) => {
-            assert!(rt; rejected.refusal.number() == 13);
-            assert!(rt; rejected.given.len() == count as usize);
-            Ok(())
-        }
-    }
+    let Err(rejected) = StarRows::new(many(heap, count)?) else {
+        return Err(Fail::new("none, or too many"));
+    };
+    assert!(rt; u8::from(rejected.refusal) == 13);
+    assert!(rt; rejected.given.len() == usize::from(count));
+    Ok(())
 }
 
 #[test]

@@ -8,178 +8,142 @@
 use protocol::code::Code;
 use protocol::kind::Kind;
 use std::process::Abort;
+use std::str::Split;
 use std::test::Fail;
 use store::owner::{owner_write, write_text};
 use store::store::Store;
 use value::read::read_value;
 use value::value::Value;
 
-/// A word of a row, or a fault of the table.
-fn word<'a>(given: Option<&'a str>) -> Result<&'a str, Fail> {
-    match given {
-        Some(word) => Ok(word),
-        None => Err(Fail::new("a word is missing")),
+/// A row of a table: what it says, and the words of it that are still to be read.
+#[derive(Drop)]
+pub struct Row<'a> {
+    text: &'a str,
+    words: Split<'a, char>,
+}
+
+impl<'a> Row<'a> {
+    /// The row that says this.
+    pub fn new(text: &'a str) -> Row<'a> {
+        let words = text.split(' ');
+        Row { text, words }
     }
-}
 
-/// The number that a word writes.
-fn number(given: Option<&str>) -> Result<u16, Fail> {
-    Ok(word(given)?.parse::<u16>()?)
-}
-
-/// The type that a word names.
-fn kind(given: Option<&str>) -> Result<Kind, Fail> {
-    match Kind::named(word(given)?) {
-        Some(kind) => Ok(kind),
-        None => Err(Fail::new("no type")),
+    /// The next word, if there is one.
+    pub fn next(&mut self) -> Option<&'a str> {
+        self.words.next()
     }
-}
 
-/// The value of a type that a word writes.
-pub fn value(kind: Kind, text: &str) -> Result<Value, Fail> {
-    match read_value(kind, text.as_bytes()) {
-        Some(value) => Ok(value),
-        None => Err(Fail::new("no value")),
+    /// The next word, or a fault of the table.
+    fn word(&mut self) -> Result<&'a str, Fail> {
+        self.next().ok_or_else(|| Fail::new("a word is missing"))
     }
-}
 
-/// Checks a code.
-fn gives(rt: &impl Abort, row: &str, code: Code, given: Option<&str>) -> Result<(), Fail> {
-    assert!(rt; u16::from(code.number()) == number(given)?, "{row}");
-    Ok(())
-}
+    /// The number that the next word writes.
+    pub fn number(&mut self) -> Result<u16, Fail> {
+        Ok(self.word()?.parse::<u16>()?)
+    }
 
-/// Checks a value that was read: its type and its spelling.
-fn tells(
-    rt: &impl Abort,
-    row: &str,
-    found: Value,
-    type_word: Option<&str>,
-    text: Option<&str>,
-) -> Result<(), Fail> {
-    assert!(rt; found.kind().word() == word(type_word)?, "{row}");
-    assert!(rt;
-        found.spelling().as_bytes() == word(text)?.as_bytes(),
-        "{row}"
-    );
-    Ok(())
+    /// The type that the next word names.
+    fn kind(&mut self) -> Result<Kind, Fail> {
+        let word = self.word()?;
+        word.parse::<Kind>().map_err(|_| Fail::new("no type"))
+    }
+
+    /// The value that the next two words write, its type and its text.
+    pub fn value(&mut self) -> Result<Value, Fail> {
+        let kind = self.kind()?;
+        let text = self.word()?;
+        read_value(kind, text.as_bytes()).ok_or_else(|| Fail::new("no value"))
+    }
+
+    /// Checks that the next word is the code.
+    fn gives(&mut self, rt: &impl Abort, code: Code) -> Result<(), Fail> {
+        let row = self.text;
+        let number = self.number()?;
+        assert!(rt; u16::from(u8::from(code)) == number, "{row}");
+        Ok(())
+    }
+
+    /// Checks that the next word is this one.
+    fn tells(&mut self, rt: &impl Abort, told: &str) -> Result<(), Fail> {
+        let row = self.text;
+        let word = self.word()?;
+        assert!(rt; told == word, "{row}");
+        Ok(())
+    }
 }
 
 /// Checks the limits.
-fn limits<S: Store>(
-    rt: &impl Abort,
-    row: &str,
-    store: &S,
-    low: u16,
-    high: Option<&str>,
-) -> Result<(), Fail> {
-    let (lowest, highest) = store.limits();
-    assert!(rt; lowest == low, "{row}");
-    assert!(rt; highest == number(high)?, "{row}");
+fn limits<S: Store>(rt: &impl Abort, row: &mut Row, store: &S) -> Result<(), Fail> {
+    let text = row.text;
+    let (low, high) = store.limits();
+    let lowest = row.number()?;
+    let highest = row.number()?;
+    assert!(rt; lowest == low, "{text}");
+    assert!(rt; highest == high, "{text}");
     Ok(())
 }
 
 /// Checks the type at an index.
-fn kind_at<S: Store>(
-    rt: &impl Abort,
-    row: &str,
-    store: &S,
-    index: u16,
-    name: Option<&str>,
-) -> Result<(), Fail> {
-    match store.kind(index) {
-        Some(kind) => {
-            assert!(rt; kind.word() == word(name)?, "{row}");
-            Ok(())
-        },
-        None => {
-            assert!(rt; "none" == word(name)?, "{row}");
-            Ok(())
-        },
-    }
+fn kind<S: Store>(rt: &impl Abort, row: &mut Row, store: &S) -> Result<(), Fail> {
+    let index = row.number()?;
+    row.tells(rt, store.kind(index).map_or("none", |kind| kind.word()))
 }
 
 /// Checks a read.
-fn read<S: Store>(
-    rt: &impl Abort,
-    row: &str,
-    store: &S,
-    index: u16,
-    code: Option<&str>,
-    name: Option<&str>,
-    text: Option<&str>,
-) -> Result<(), Fail> {
+fn read<S: Store>(rt: &impl Abort, row: &mut Row, store: &S) -> Result<(), Fail> {
+    let index = row.number()?;
     match store.read(index) {
         Ok(found) => {
-            gives(rt, row, Code::Done, code)?;
-            tells(rt, row, found, name, text)
+            let text = found.spelling();
+            row.gives(rt, Code::Done)?;
+            row.tells(rt, found.kind().word())?;
+            row.tells(rt, text.as_str())
         }
-        Err(refused) => gives(rt, row, refused, code),
+        Err(code) => row.gives(rt, code),
     }
 }
 
 /// Checks a write.
-fn write<S: Store>(
-    rt: &impl Abort,
-    row: &str,
-    store: &mut S,
-    index: u16,
-    name: Option<&str>,
-    text: Option<&str>,
-    code: Option<&str>,
-) -> Result<(), Fail> {
-    let value = value(kind(name)?, word(text)?)?;
-    gives(rt, row, store.write(index, value), code)
+fn write<S: Store>(rt: &impl Abort, row: &mut Row, store: &mut S) -> Result<(), Fail> {
+    let index = row.number()?;
+    let value = row.value()?;
+    row.gives(rt, store.write(index, value))
 }
 
 /// Checks a write of the owner.
-fn owner<S: Store>(
-    rt: &impl Abort,
-    row: &str,
-    store: &mut S,
-    index: u16,
-    name: Option<&str>,
-    text: Option<&str>,
-    code: Option<&str>,
-) -> Result<(), Fail> {
-    let kind = kind(name)?;
-    let text = word(text)?;
-    gives(
-        rt,
-        row,
-        owner_write(store, index, kind, text.as_bytes()),
-        code,
-    )
+fn owner<S: Store>(rt: &impl Abort, row: &mut Row, store: &mut S) -> Result<(), Fail> {
+    let index = row.number()?;
+    let kind = row.kind()?;
+    let text = row.word()?;
+    row.gives(rt, owner_write(store, index, kind, text.as_bytes()))
+}
+
+/// Checks the write of a text.
+fn text<S: Store>(rt: &impl Abort, row: &mut Row, store: &mut S) -> Result<(), Fail> {
+    let index = row.number()?;
+    let text = row.word()?;
+    row.gives(rt, write_text(store, index, text.as_bytes()))
 }
 
 /// Makes the call of a row and checks the answer.
-fn answers<S: Store>(rt: &impl Abort, store: &mut S, row: &str) -> Result<(), Fail> {
-    let mut words = row.split(' ');
-    let call = word(words.next())?;
-    let index = number(words.next())?;
-    let first = words.next();
-    let second = words.next();
-    let third = words.next();
-    match call {
-        "limits" => limits(rt, row, store, index, first),
-        "kind" => kind_at(rt, row, store, index, first),
-        "read" => read(rt, row, store, index, first, second, third),
-        "write" => write(rt, row, store, index, first, second, third),
-        "owner" => owner(rt, row, store, index, first, second, third),
-        "text" => gives(
-            rt,
-            row,
-            write_text(store, index, word(first)?.as_bytes()),
-            second,
-        ),
+fn answers<S: Store>(rt: &impl Abort, store: &mut S, row: &mut Row) -> Result<(), Fail> {
+    match row.word()? {
+        "limits" => limits(rt, row, store),
+        "kind" => kind(rt, row, store),
+        "read" => read(rt, row, store),
+        "write" => write(rt, row, store),
+        "owner" => owner(rt, row, store),
+        "text" => text(rt, row, store),
         _ => Err(Fail::new("no such call")),
     }
 }
 
 /// Makes the calls of a table in order and checks each answer.
 pub fn holds<S: Store>(rt: &impl Abort, store: &mut S, table: &str) -> Result<(), Fail> {
-    for row in table.lines() {
-        answers(rt, store, row)?;
+    for line in table.lines() {
+        answers(rt, store, &mut Row::new(line))?;
     }
     Ok(())
 }

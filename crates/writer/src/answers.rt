@@ -1,4 +1,5 @@
-//! Writing what a box answers. An answer bears the version and the number of its request.
+//! Writing what a box answers. An answer bears the version and the number of its request. Each call names its message
+//! in its contract, so it stays beside the others, and `write` does the work of all.
 ghost use Rattle.std.specs.Prelude.{◌≡◌, ◌&&◌, [], ◌∷◌, map, IfOk};
 ghost use Rattle.field.specs.declared.words.Version.TheVariants.{V11};
 ghost use Rattle.packet.specs.Messages.{read_answer, write_answer, discovery_answer};

@@ -1,4 +1,5 @@
-//! Writing what a catalogue asks.
+//! Writing what a catalogue asks. Each call names its message in its contract, so it stays beside the others, and
+//! `write` does the work of all.
 ghost use Rattle.std.specs.Prelude.{◌≡◌, true, map, IfOk};
 ghost use Rattle.packet.specs.Messages.{read_request, write_request, discovery_request};
 ghost use Rattle.writer.specs.Orders.{counted, change_of, changes_allowed, asked, asked_head};

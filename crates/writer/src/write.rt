@@ -9,7 +9,8 @@ use crate::put::Put;
 use packet::head::Head;
 use protocol::refusal::Refusal;
 
-/// Writes a packet of this head and these groups, if the order is allowed, and tells its length.
+/// Writes a packet of this head and these groups, and tells its length. `allowed` is what the test of the order told,
+/// which is another for each message; a short row is told before it.
 pub(crate) fn write<G: Put + Drop, I: Iterator<Item = G> + Drop>(
     row: &mut [u8],
     allowed: bool,

@@ -1,8 +1,7 @@
-use Rattle.std.proofs.Common.{sym, ap}
+use Rattle.std.proofs.Common.{ap}
 use Rattle.packet.specs.Cursors.{indices_ahead, writes_ahead}
 use Rattle.packet.specs.Packets.{message_of, content_of}
 use Rattle.packet.specs.Messages.{count_of}
-use Rattle.mount_box.specs.Carrying.{left_by}
 use Rattle.mount_box.proofs.Answering.{received_counted, discovery_carries}
 use Rattle.mount_box.proofs.carrying.carry_out.Goals as goal
 

@@ -1,11 +1,8 @@
-use Rattle.std.proofs.Common.{◌≡◌, Err, sym, refl, ap, subst, inl, inr, rules}
-use Rattle.std.proofs.lemmas.Result.{err_from_is_err_and}
-use Rattle.protocol.specs.declared.refusal.Refusal.TheVariants.{ShortMemory}
+use Rattle.std.proofs.Common.{sym, ap, subst, inl, inr, rules}
 use Rattle.packet.specs.Packets.{message_of, content_of}
 use Rattle.mount_box.specs.Answers.{Orders}
-use Rattle.mount_box.specs.Handling.{handled}
 use Rattle.mount_box.specs.Views.{box_of, outcome}
-use Rattle.mount_box.proofs.Promised.{served, responded, refused_so}
+use Rattle.mount_box.proofs.Promised.{served, responded}
 use Rattle.mount_box.proofs.Served.{found_out}
 use Rattle.mount_box.proofs.mount.MountBox.handle.Goals as goal
 

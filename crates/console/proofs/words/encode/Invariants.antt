@@ -1,6 +1,0 @@
-use Rattle.std.proofs.Common.{◌≡◌, ◌++◌, drop, vec_items}
-use Rattle.console.specs.Notation.{noted_bytes}
-use Rattle.console.proofs.words.encode.Given as goal
-
-abbrev pub invariant-loop-b : goal.invariant-loop-b
-invariant-loop-b l = vec_items l.out ++ noted_bytes (drop l.b-index l.bytes) ≡ vec_items l.initial.out ++ noted_bytes l.bytes
