@@ -76,13 +76,3 @@ module _ (bs body : List ℕ) (short : length bs ≤ 512) (e : Some body ≡ con
       ⊎_elim (λ w. absurd (u (subst IsUtf8 (sym p.1) (inside_utf8 bs f ((utf8_decides bs).0 w)))))
       (λ w. rw (le-ltb 512 (length bs) short, p.0) (rw w))
       (cases_Bool (utf8 bs))
-
-  pub body_ends : (text : List ℕ) → text ≡ body → Ends bs (length bs - 1) text
-  body_ends text t =
-      let p = some_framed (framed bs) body (inside bs) e in
-      let f = from_framed bs p.0 in
-      let long : 2 ≤ length bs = f.long in
-      let same : text ≡ inside bs = t ∙ p.1 in
-      let l : length text ≡ length bs - 1 - 1 = ap length same ∙ length-take (length bs - 1 - 1) (drop 1 bs) ∙ omega (arith, length-drop 1 bs) in
-      let one : length bs - 1 - length text ≡ 1 = omega arith in
-      (omega arith, rw (one, l) same)

@@ -73,13 +73,14 @@ impl<'a, G: Group<'a>> Groups<'a, G> {
         // How many groups there are, which is what is to be found out, and no index.
         let mut count = 0;
         while !rest.is_empty() {
+            let first = 4 + G::WIDTH * count;
             if count == most {
-                return Err(4 + G::WIDTH * count);
+                return Err(first);
             }
             // A closure for `map_err` has no proof here, since the bound on G names a lifetime.
             match G::read(&mut rest) {
                 Ok(_) => count += 1,
-                Err(place) => return Err(4 + G::WIDTH * count + place),
+                Err(place) => return Err(first + place),
             }
         }
         if count < least {

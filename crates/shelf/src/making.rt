@@ -24,6 +24,7 @@ fn is_shelved(low: u16, high: u16, slots: &[Slot]) -> bool
     low <= high && (1..=256).contains(&slots.len()) && ascends(low, high, slots)
 }
 
+// The limits are two numbers and no range: a first one above the second is turned down, and is not empty.
 impl Shelf {
     /// A shelf of these between the two limits. Unless there are 1 to 256 of them, in strictly ascending order of index
     /// between the limits, they come back.

@@ -58,6 +58,7 @@ impl Store for Shelf {
         if !self.covers(index) {
             return Code::OutsideLimits;
         }
+        // No `?` here: the answer is a code.
         let Some(place) = self.place(index) else {
             return Code::NotFound;
         };

@@ -1,8 +1,7 @@
 -- Looking through stars for a name.
-use Rattle.std.proofs.Common.{◌≡◌, ℕ, ◌+◌, Bool, cond, List, [], ◌∷◌, Some, Decides, ◌∙◌, refl, ap, subst, rules}
+use Rattle.std.proofs.Common.{◌≡◌, ℕ, ◌+◌, cond, List, [], ◌∷◌, Some, ◌∙◌, refl, ap}
 use Rattle.std.specs.List.{position, position_from}
 use Rattle.std.specs.Str.{bytes_eq}
-use Rattle.std.proofs.lemmas.Slice.Eq.{bytes_eq-Decides}
 use Rattle.std.proofs.lemmas.Iterator.Adapters.{position_from-zero}
 use Rattle.sky.specs.Stars.{star_name}
 use Rattle.sky.specs.Names.{place_from, place_of}
@@ -14,7 +13,3 @@ from_place name (s ∷ ss) at = ap (λ o. cond (bytes_eq (star_name s) name) (So
 
 pub place_position : (name : List ℕ) (ss : List Star) → position (λ (s : Star). bytes_eq (star_name s) name) ss ≡ place_of name ss
 place_position name ss = position_from-zero (λ (s : Star). bytes_eq (star_name s) name) ss ∙ from_place name ss 0
-
--- `==` of two slices, the first of which holds bs
-pub same_from : (xs bs ys : List ℕ) (r : Bool) → Decides r (xs ≡ ys) → xs ≡ bs → r ≡ bytes_eq bs ys
-same_from xs bs ys r h e = subst (λ (zs : List ℕ). r ≡ bytes_eq zs ys) e (search (rules, bytes_eq-Decides))

@@ -9,6 +9,7 @@ use std::fmt;
 /// A declination: a sign, and its size in degrees, minutes and seconds of arc.
 #[derive(Clone, Copy, Debug, PartialEq, Eq)]
 pub struct Degrees {
+    // A sign of its own: within a degree of the equator the degrees are 0 on both sides.
     pub negative: bool,
     pub degrees: u8,
     pub minutes: u8,
@@ -26,6 +27,7 @@ impl Star {
         let size = self.declination.unsigned_abs() / 10;
         let seconds = size / 100;
         let minutes = seconds / 60;
+        // The casts are proved to lose nothing: a `try_from` would have a fault that never comes.
         Degrees {
             negative: self.declination < 0,
             degrees: (minutes / 60) as u8,

@@ -24,6 +24,7 @@ impl Star {
         let time = self.ascension.unsigned_abs() / 15;
         let seconds = time / 1000;
         let minutes = seconds / 60;
+        // The casts are proved to lose nothing: a `try_from` would have a fault that never comes.
         Hours {
             hours: (minutes / 60) as u8,
             minutes: (minutes % 60) as u8,

@@ -40,6 +40,7 @@ impl Store for StarRows {
     ghost sound = { λ s. stars_sound s.stars.items (omega (arith, s.stars.ok.0)) (omega (arith, s.stars.ok.0)) };
 
     fn limits(&self) -> (u16, u16) {
+        // The cast is proved to lose nothing, as there are 20,000 stars at most.
         let count = self.stars.len() as u16;
         (FIRST, FIRST - 1 + 3 * count)
     }

@@ -12,6 +12,7 @@ pub fn perform<S: Store>(store: &mut S, step: Step) -> Answer
     ensures answer { answered result ≡ answer_of (S.meaning store.old) step }
     ensures after { S.meaning store.new ≡ after_step (S.meaning store.old) step }
 {
+    // A call is a value to choose by, and no closure: the law speaks of the calls of a list.
     match step {
         Step::Read(index) => store.read(index).map(Some),
         Step::Write(index, value) => match store.write(index, value) {

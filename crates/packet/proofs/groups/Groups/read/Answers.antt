@@ -1,4 +1,5 @@
-use Rattle.std.proofs.Common.{ap, ◌∙◌, arith}
+use Rattle.std.proofs.Common.{◌≤◌, ◌*◌, ap, ◌∙◌, arith}
+use Rattle.std.proofs.lemmas.Nat.{mul-le}
 use Rattle.field.specs.Fields.{fields}
 use Rattle.field.specs.Parts.{part_bytes, fields_left}
 use Rattle.packet.specs.Groups.{groups}
@@ -18,7 +19,7 @@ loop-rest-preserved g c =
 
 pub returns-in-Err-clause-groups : goal.returns-in-Err-clause-groups
 returns-in-Err-clause-groups g c =
-    rw c.WIDTH-in-Err.ensures (passed_broken _ _ _ _ _ c.loop-rest.invariant.1 g.G.Group.none 4 c.args.least c.args.most c.in-Err.place c.loop-rest-test.ensures (omega arith) c.in-Err.ensures.group)
+    rw c.WIDTH.ensures (passed_broken _ _ _ _ _ c.loop-rest.invariant.1 g.G.Group.none 4 c.args.least c.args.most c.in-Err.place c.loop-rest-test.ensures (omega arith) c.in-Err.ensures.group)
 
 pub returns-then-count-least-clause-groups : goal.returns-then-count-least-clause-groups
 returns-then-count-least-clause-groups g c =
@@ -27,3 +28,8 @@ returns-then-count-least-clause-groups g c =
 pub returns-clause-groups : goal.returns-clause-groups
 returns-clause-groups g c =
     passed_all _ _ _ _ _ c.loop-rest.invariant.1 g.G.Group.none 4 c.args.least c.args.most c.loop-rest-test.ensures c.if-count-least.false c.loop-rest.invariant.0
+
+pub overflow_add-result : goal.overflow_add-result
+overflow_add-result g c =
+    let few : c.WIDTH.result * c.loop-rest.count ≤ 3 * 10 = mul-le _ _ 3 10 (omega (arith, c.WIDTH.ensures, g.G.Width.narrow)) (omega arith) in
+    omega (arith, c.WIDTH.ensures, g.G.Width.narrow, c.in-Err.ensures.bound)
