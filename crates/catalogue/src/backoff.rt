@@ -15,6 +15,7 @@ impl Timing {
     {
         let mut interval = self.first;
         let mut deadline = time + u64::from(interval);
+        // A chain by `successors` knows no bound on the intervals that it doubles and adds up.
         for _repeat in 0..self.repeats {
             if 2 * interval > self.longest {
                 break;

@@ -14,6 +14,8 @@ use protocol::refusal::Refusal;
 use slab_rows::place::Place;
 use writer::change::Change;
 
+// The clauses `counts`, `others` and `rest` compare what was before a call and after it, which no type can say: each call that
+// the station offers states them for itself, and `open` states them for two.
 impl Catalogue {
     /// The number of the transaction that can be opened with partner `k`, or the first ground against opening one.
     fn free_number(&self, memory: usize, k: usize, time: u64, allowed: bool) -> Result<u16, Refusal>

@@ -52,6 +52,7 @@ impl Order for &[u16] {
     }
 
     fn count(self) -> u8 {
+        // At most 10 are allowed: `try_from` would have to name an error that cannot come.
         self.len() as u8
     }
 
@@ -75,6 +76,7 @@ impl Order for &[Change] {
     }
 
     fn count(self) -> u8 {
+        // At most 10 are allowed: `try_from` would have to name an error that cannot come.
         self.len() as u8
     }
 

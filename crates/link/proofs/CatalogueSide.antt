@@ -167,17 +167,9 @@ module _ (slab : List ℕ) (k : ℕ) (p : Partner) (ms : List Move) (w : Waiting
         wait = rw a;
       }
 
+  -- withdrawing settles as failing does
   withdraw_pair : Pair slab k (freed p) (withdrawing ∷ ms)
-  withdraw_pair =
-      let a = waits_for.alone in
-      record {
-        fresh = ok.fresh;
-        once = λ n. let o = ok.once n in let b : times n (waits ms) ≡ one (eqb n w.number) + 0 = rw a in rw a (omega arith);
-        below = ok.below;
-        rise = ok.rise;
-        settles = (rw a (omega arith), ok.settles);
-        wait = rw a;
-      }
+  withdraw_pair = let f = fail_pair in record { fresh = f.fresh; once = f.once; below = f.below; rise = f.rise; settles = f.settles; wait = f.wait }
 
   answer_pair : (m : Message) → w.number ≡ m.number → Pair slab k (freed p) (answering m ∷ ms)
   answer_pair m h =
