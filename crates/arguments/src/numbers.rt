@@ -64,6 +64,7 @@ impl Natural for u64 {
 
 /// A number that a word spells: an index is a `u16`, an address, a partner or a setting of a catalogue a `u32`, and a time
 /// a `u64`.
+#[tactic(auto, using(crate::proofs::Digits::no_text, crate::proofs::Digits::narrower, crate::proofs::Digits::converted))]
 pub fn read_number<T: Natural>(word: &[u8]) -> Result<T, Trouble>
 where
     T::Error: Drop,

@@ -35,6 +35,7 @@ pub struct ChangeWord {
 }
 
 /// What stands before and behind the first `mark`, if there is one.
+#[tactic(auto, using(crate::proofs::Cuts::cut_none))]
 fn cut(word: &[u8], mark: u8) -> Option<(&[u8], &[u8])>
     ensures { option_map (λ p. (p.0.now, p.1.now)) result ≡ cut_at mark word.now }
 {

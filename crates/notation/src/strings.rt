@@ -66,7 +66,7 @@ impl Iterator for Signs<'_> {
 }
 
 /// The bytes that a word stands for.
-#[tactic(auto, using(crate::proofs::Backs::read_back))]
+#[tactic(auto, using(crate::proofs::Backs::read_back, crate::proofs::Notes::behind_start, crate::proofs::Notes::behind_more, crate::proofs::Notes::misread))]
 pub fn decode(heap: Global, word: &[u8]) -> Result<Vec<u8>, Trouble>
     ensures taken { Understood vec_items (word_of word.now) result }
     ensures back { WordsReadBack }

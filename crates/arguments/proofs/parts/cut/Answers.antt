@@ -1,16 +1,8 @@
 use Rattle.std.proofs.Common.{◌≡◌, ◌≢◌, sym, rules, tests, arith}
 use Rattle.std.proofs.lemmas.Iterator.{YieldsList-from_slice, IsFirst-from_position}
-use Rattle.std.proofs.lemmas.Option.{MatchOption-at_some, MatchOption-at_none}
-use Rattle.arguments.proofs.Cuts.{cut_none, cut_some}
+use Rattle.std.proofs.lemmas.Option.{MatchOption-at_some}
+use Rattle.arguments.proofs.Cuts.{cut_some}
 use Rattle.arguments.proofs.parts.cut.Goals as goal
-
-pub returns-in_err-at : goal.returns-in_err-at
-returns-in_err-at c =
-    let mark = c.args.mark in
-    let word = c.args.word.now in
-    let first = IsFirst-from_position _ _ c.position.result (λ b. b ≡ mark) (λ b. b ≢ mark) c.position.ensures.ran (YieldsList-from_slice word cc) (λ x q k. search (rules, tests)) (λ x q k. search (rules, tests)) in
-    let none = MatchOption-at_none _ _ c.in_err-at.was first in
-    rw c.from_residual.ensures (sym (cut_none mark word (λ k l. none k 0 (omega arith) l)))
 
 pub returns : goal.returns
 returns c =
