@@ -39,6 +39,7 @@ pub struct Packet<'a> {
     pub body: Body<'a>,
 }
 
+// Three calls match the six bodies: each answers something of another type, which one table would only wrap.
 impl<'a> Packet<'a> {
     /// Whether the packet asks or answers.
     pub fn direction(&self) -> Direction
