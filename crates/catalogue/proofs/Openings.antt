@@ -62,6 +62,12 @@ none_held false true c d e g x₁ x₂ x₃ x₄ x₅ x₆ x y h = cc
 none_held false false true d e g x₁ x₂ x₃ x₄ x₅ x₆ x y h = cc
 none_held false false false d e g x₁ x₂ x₃ x₄ x₅ x₆ x y h = refl
 
+-- the packet with the number n, of this length, is written and noted: what that leaves of the slab
+pub record RowWritten (s : Station) (slab : List ℕ) (k time : ℕ) (allowed : Bool) (content : Content) (n len : ℕ) (after : List ℕ) : Type 0 where
+  pub defined : after ≡ (opening s slab k time allowed content).slab
+  pub outside : Outside (Slab (512 * k) len) slab after
+  pub back : (reply : List ℕ) → PacketThere content after (record { number = n; place = Slab (512 * k) len }) reply
+
 module _ (s : Station) (slab : List ℕ) (k time : ℕ) (allowed : Bool) (content : Content) where
   -- the station once a packet of n bytes is noted
   abbrev pub opened_after : ℕ → Station
@@ -103,8 +109,8 @@ module _ (s : Station) (slab : List ℕ) (k time : ℕ) (allowed : Bool) (conten
     bytes = bytes_of (asked n content)
 
     -- the packet is written to its front
-    pub row_written : written allowed (asked n content) row ≡ at_start bytes row
-    row_written =
+    at_front : written allowed (asked n content) row ≡ at_start bytes row
+    at_front =
         let w : 512 * k + 512 - 512 * k ≤ length (drop (512 * k) slab) = simp length-drop (omega arith) in
         let t : ltb (length row) 512 ≡ false = le-ltb (length row) 512 (omega (arith, length-take-le (512 * k + 512 - 512 * k) (drop (512 * k) slab) w)) in
         cond-false (ltb (length row) 512) _ _ t ∙ cond-true allowed _ _ a
@@ -116,27 +122,23 @@ module _ (s : Station) (slab : List ℕ) (k time : ℕ) (allowed : Bool) (conten
 
       told_length : len ≡ length bytes
       told_length =
-          let told : ◌≡◌ {A = Result ℕ Refusal} (Ok len) (Ok (length bytes)) = t ∙ ap (λ x. x.told) row_written in
+          let told : ◌≡◌ {A = Result ℕ Refusal} (Ok len) (Ok (length bytes)) = t ∙ ap (λ x. x.told) at_front in
           cc
 
       lies : after ≡ rowed slab k bytes
-      lies = part_written (512 * k) (512 * k + 512 - 512 * k) slab bytes ys (omega (arith, b.0, told_length)) (omega (arith, inside)) (r ∙ ap (λ x. x.row) row_written)
+      lies = part_written (512 * k) (512 * k + 512 - 512 * k) slab bytes ys (omega (arith, b.0, told_length)) (omega (arith, inside)) (r ∙ ap (λ x. x.row) at_front)
 
-      pub row_lies : after ≡ (opening s slab k time allowed content).slab
-      row_lies = lies ∙ sym (ap (λ x. x.slab) (opening_judged ∙ ap (outcome s slab k time content) j))
-
-      -- it leaves what lies before and behind
-      pub row_outside : Outside (Slab (512 * k) len) slab after
-      row_outside =
-          subst (λ x. Outside (Slab (512 * k) x) slab after) (sym told_length) (subst (Outside (Slab (512 * k) (length bytes)) slab) (sym lies) (put_outside slab bytes (512 * k) (omega (arith, inside))))
-
-      -- and can be handed out again
-      pub row_back : (reply : List ℕ) → PacketThere content after (record { number = n; place = Slab (512 * k) len }) reply
-      row_back reply = record {
-        bytes = bytes;
-        there =
-            ap (λ x. piece after (512 * k) x) told_length ∙ ap (λ x. piece x (512 * k) (length bytes)) lies
-            ∙ put_there slab bytes (512 * k) (omega (arith, b.0, told_length, inside));
-        reads = b.1;
-        short = omega (arith, b.0, told_length);
+      -- the slab is as defined, what lies before and behind the packet is left, and the packet can be handed out again
+      pub row_written : RowWritten s slab k time allowed content n len after
+      row_written = record {
+        defined = lies ∙ sym (ap (λ x. x.slab) (opening_judged ∙ ap (outcome s slab k time content) j));
+        outside = subst (λ x. Outside (Slab (512 * k) x) slab after) (sym told_length) (subst (Outside (Slab (512 * k) (length bytes)) slab) (sym lies) (put_outside slab bytes (512 * k) (omega (arith, inside))));
+        back = λ reply. record {
+          bytes = bytes;
+          there =
+              ap (λ x. piece after (512 * k) x) told_length ∙ ap (λ x. piece x (512 * k) (length bytes)) lies
+              ∙ put_there slab bytes (512 * k) (omega (arith, b.0, told_length, inside));
+          reads = b.1;
+          short = omega (arith, b.0, told_length);
+        };
       }

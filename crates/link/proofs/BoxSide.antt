@@ -6,7 +6,7 @@
 --     Outcome, outcome    what handling a packet did to what was carried out for its sender
 use Rattle.std.proofs.Common.{◌≡◌, ℕ, zero, suc, ◌<◌, ◌≤◌, Bool, true, false, cond, eqb, ◌⊎◌, List, [], ◌∷◌, length, get_or, set, replicate, Some, None, Ok, Err, Option, Result, sym, refl, ap, ◌∙◌, subst, inl, inr, arith}
 use Rattle.std.proofs.lemmas.List.{length-set, get_or-set_same, get_or-set_other}
-use Rattle.std.proofs.lemmas.Bool.{and_parts, and_left, and_right, and_from, cases_eq, eq-eqb, ne_eqb, eqb-true, eqb-false, not-true, true≢false}
+use Rattle.std.proofs.lemmas.Bool.{and_left, and_right, and_from, cases_eq, eq-eqb, ne_eqb, eqb-true, eqb-false, true≢false}
 use Rattle.protocol.specs.declared.refusal.Refusal.{Refusal}
 use Rattle.packet.specs.Messages.{Message, discovery_request, packet_of}
 use Rattle.writer.specs.Bytes.{bytes_of}
