@@ -49,7 +49,7 @@ fn value(heap: Global, mut words: Words<'_>) -> Result<String, Trouble> {
     Ok(match read_value(kind, &text) {
         Some(value) => {
             let spelling = value.spelling();
-            let spelling = Noted(spelling.as_bytes());
+            let spelling = Noted::new(spelling.as_bytes());
             format!(in heap; "value {spelling}")?
         }
         None => String::from_str(heap, "none")?,

@@ -18,6 +18,7 @@ impl Coefficient {
     {
         let zeros = self.zeros + 1;
         if digit == 0 {
+            // No `..self`: there is none for a struct with ghost fields.
             return Some(Coefficient {
                 digits: self.digits,
                 zeros,

@@ -82,7 +82,7 @@ impl FromStr for Direction {
     }
 }
 
-/// The number of the command.
+/// The number of the command. (It stands beside its case, as in the table of commands.)
 impl From<Command> for u8 {
     ghost from_gives = { λ c n. n ≡ command_number c };
 

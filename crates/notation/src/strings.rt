@@ -13,6 +13,16 @@ use std::fmt;
 #[derive(Clone, Copy)]
 pub struct Noted<'a>(pub &'a [u8]);
 
+impl<'a> Noted<'a> {
+    /// These bytes in the notation: the word that is written for them stands for them.
+    pub fn new(bytes: &'a [u8]) -> Noted<'a>
+        ensures bytes { result.0.now ≡ bytes.now }
+        ensures back { word_of (noted bytes.now) ≡ Some bytes.now }
+    {
+        Noted(bytes)
+    }
+}
+
 /// A byte in the notation.
 #[derive(Clone, Copy)]
 struct NotedByte(u8);

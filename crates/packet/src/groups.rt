@@ -50,7 +50,8 @@ pub trait Group<'a>: Width {
         ensures onward { Onward fields.old fields.new };
 }
 
-/// The groups of a payload that are still to come.
+/// The groups of a payload that are still to come, and how many. That the count agrees with the fields is told by `read`,
+/// and is no invariant: it would bind the struct by `Group<'a>`, and with it all that holds a cursor.
 #[derive(Clone, Copy)]
 pub struct Groups<'a, G> {
     pub(crate) fields: Fields<'a>,
@@ -59,7 +60,7 @@ pub struct Groups<'a, G> {
 }
 
 impl<'a, G: Group<'a>> Groups<'a, G> {
-    /// Reads a payload of `least` to `most` groups, or tells the number of the first field at fault.
+    /// Reads a payload of `least` to `most` groups, or tells the number of the first field at fault, as a refusal does.
     pub(crate) fn read(payload: Part<'a>, least: u8, most: u8) -> Result<Groups<'a, G>, u8>
         requires { most ≤ 10 }
         ensures groups { with_ok (groups_ahead G.WIDTH G.group) result ≡ groups G.WIDTH G.group 4 least (fields (part_bytes payload.entry)) most }

@@ -31,7 +31,7 @@ pub struct ReadingGroup;
 /// The groups of a read answer that are still to come.
 pub type Readings<'a> = Groups<'a, ReadingGroup>;
 
-/// The group that these three fields are, or the place of the first at fault.
+/// The group that these three fields are, or the place of the first at fault, from which a refusal's number is counted.
 fn reading_by<'a>(
     code: Option<Part<'a>>,
     word: Option<Part<'a>>,

@@ -18,7 +18,7 @@ pub enum Code {
     OutsideLimits,
 }
 
-/// The number that stands for the code in a packet.
+/// The number that stands for the code in a packet. (It stands beside its case, as in the table of codes.)
 impl From<Code> for u8 {
     ghost from_gives = { λ c n. n ≡ code_number c };
 

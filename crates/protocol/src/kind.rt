@@ -30,7 +30,7 @@ pub enum Kind {
     St,
 }
 
-/// The place of the type in the table of types, from 0.
+/// The place of the type in the table of types, from 0. (It stands beside its case, as in that table.)
 impl From<Kind> for u8 {
     ghost from_gives = { λ k n. n ≡ kind_number k };
 

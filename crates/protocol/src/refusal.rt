@@ -78,9 +78,7 @@ impl Refusal {
         ensures { result ≡ refusal_field self }
     {
         match self {
-            Refusal::Head(field) => Some(field),
-            Refusal::Command(field) => Some(field),
-            Refusal::Payload(field) => Some(field),
+            Refusal::Head(field) | Refusal::Command(field) | Refusal::Payload(field) => Some(field),
             _ => None,
         }
     }

@@ -20,14 +20,15 @@ impl Numeral {
 
     /// The digits as bytes.
     pub fn as_bytes(&self) -> &[u8]
-        ensures { result.now ≡ digits_of self.now }
+        ensures value { result.now ≡ digits_of self.now }
+        ensures short { length result.now ≤ 20 }
     {
         self.digits.as_str().as_bytes()
     }
 }
 
 /// Writes the bytes into the row from a place on, and tells where they end. Without room for all
-/// of them it writes none.
+/// of them it writes none. (A row and a place, and no struct of both: the row is lent for this one call.)
 pub fn put(row: &mut [u8], at: usize, bytes: &[u8]) -> usize
     ensures end { result ≡ (if fits row.old at bytes.now then at + length bytes.now else at) }
     ensures row { row.new ≡ (if fits row.old at bytes.now then put_at row.old at bytes.now else row.old) }

@@ -7,7 +7,8 @@ use crate::fault::RowFault;
 use crate::star::Star;
 use protocol::text::Text;
 
-/// The angles from one end to the other, in milliarcseconds.
+/// The angles from one end to the other, in milliarcseconds. (A `RangeInclusive` has its ends behind calls, and no constant
+/// of one can be made here.)
 #[derive(Clone, Copy)]
 pub(crate) struct Angles {
     low: i32,

@@ -3,7 +3,7 @@
 --     after_of c ss           what the store means afterwards
 --     latest o i ss rs        what stands at i by the answers alone, where o stood first
 --     Remembers c ss rs after the law of stores over a list of calls
-use Rattle.std.specs.Prelude.{◌≡◌, ℕ, ◌<◌, true, cond, ◌&&◌, List, [], ◌∷◌, length, take, Some, None, Ok, Err, Option, Result, ◌==◌, slice_index_or}
+use Rattle.std.specs.Prelude.{◌≡◌, ◌≢◌, IfErr, ℕ, ◌<◌, true, cond, ◌&&◌, List, [], ◌∷◌, length, take, Some, None, Ok, Err, Option, Result, ◌==◌, slice_index_or}
 use Rattle.protocol.specs.Words.{code_number}
 use Rattle.protocol.specs.declared.code.Code.{Code}
 use Rattle.value.specs.declared.value.Value.{Value}
@@ -16,6 +16,10 @@ abbrev pub answered : Result (Option Value) Code → Reading
 answered (Ok (Some v)) = record { code = 0; value = Some (typed v) }
 answered (Ok None) = refused 0
 answered (Err c) = refused (code_number c)
+
+-- an answer that is an error bears a code other than done
+abbrev pub BearsFault : Result (Option Value) Code → Type 0
+BearsFault r = IfErr r (λ c. code_number c ≢ 0)
 
 -- the answer to one call
 abbrev pub answer_of : Contents → Step → Reading

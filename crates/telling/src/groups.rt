@@ -34,7 +34,7 @@ impl fmt::Display for Change<'_> {
 
     fn fmt<W: fmt::Write>(&self, f: &mut fmt::Formatter<W>) -> fmt::Result {
         let index = self.0.index;
-        let text = Noted(self.0.text.text.as_bytes());
+        let text = Noted::new(self.0.text.text.as_bytes());
         write!(f, "{index}={text}")
     }
 }
@@ -48,7 +48,7 @@ impl fmt::Display for Readout<'_> {
             Ok(found) => {
                 let code = u8::from(Code::Done);
                 let kind = found.kind;
-                let text = Noted(found.text.text.as_bytes());
+                let text = Noted::new(found.text.text.as_bytes());
                 write!(f, "{code}:{kind}:{text}")
             }
             Err(code) => {
