@@ -74,7 +74,8 @@ where
     T::try_from(number).map_err(|_| Trouble::NotUnderstood)
 }
 
-/// An angle in milliarcseconds, as a value of type In.
+/// An angle in milliarcseconds, as a value of type In. (The crate `sky` has the same match for a part of a row, where none
+/// is no trouble of a line; a function of both would say no less.)
 pub fn read_angle(word: &[u8]) -> Result<i32, Trouble>
     ensures { result_map_both whole (λ e. e) result ≡ ok_or (value_read K.In word.now) NotUnderstood }
 {

@@ -16,6 +16,7 @@ pub struct ItemWord {
     pub index: u16,
     pub kind: Kind,
     pub text: Vec<u8>,
+    // A mark of its own: a fixed element has its text like any other.
     pub fixed: bool,
 }
 

@@ -17,7 +17,8 @@ use writer::change::Change;
 // The clauses `counts`, `others` and `rest` compare what was before a call and after it, which no type can say: each call that
 // the station offers states them for itself, and `open` states them for two.
 impl Catalogue {
-    /// The number of the transaction that can be opened with partner `k`, or the first ground against opening one.
+    /// The number of the transaction that can be opened with partner `k`, or the first ground against opening one. Whether
+    /// the order is allowed comes as a flag, since the grounds of time, memory and partner are told before it.
     fn free_number(&self, memory: usize, k: usize, time: u64, allowed: bool) -> Result<u16, Refusal>
         ensures answer { result ≡ judged self.now memory k time allowed }
         ensures free { OnOk result (Free self.now k time) }

@@ -2,7 +2,8 @@
 use field::words::Command;
 
 /// A transaction that waits for its answer: what its packet was, when it is due to be sent again, the present interval, and
-/// how often it was sent again.
+/// how often it was sent again. The packet itself lies in the slab, which is lent, so its length stands here. How large the
+/// interval can be follows from the station's timing, which this does not have: the station's invariant says it.
 #[derive(Clone, Copy)]
 pub struct Waiting {
     pub(crate) number: u16,

@@ -19,6 +19,8 @@ use store::store::Store;
 use value::value::Value;
 use writer::answers::{write_discovery_answer, write_read_answer, write_write_answer};
 
+// Both loops count their places: what `iter_mut` lends has no name in a loop's invariant.
+
 /// Reads each index in the store, in order.
 fn read_all<S: Store>(store: &S, indices: Indices<'_>, readings: &mut [Result<Value, Code>])
     requires { length readings.old ≡ length (indices_ahead indices) }

@@ -134,7 +134,7 @@ mod tests {
 
     fn is_ground(rt: &impl Abort, refusal: Refusal, number: &str, field: &str) -> Result<(), Fail> {
         assert_eq!(rt; u8::from(refusal), number.parse::<u8>()?);
-        assert_eq!(rt; refusal.field().unwrap_or(0), field.parse::<u8>()?);
+        assert_eq!(rt; refusal.field(), Some(field.parse::<u8>()?));
         Ok(())
     }
 

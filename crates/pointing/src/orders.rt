@@ -67,6 +67,7 @@ pub fn print_orders(rt: &HostRuntime, targets: &[Target]) -> io::Result<()> {
     }
     println!(rt; "\nWhat is sent to the mount")?;
     for (index, target) in targets.iter().enumerate() {
+        // Past 65,535 orders the sheet goes on with the last number.
         let number = u16::try_from(index).unwrap_or(u16::MAX);
         print_order(rt, number, target)?;
     }

@@ -35,7 +35,8 @@ fn name_width(heap: Global, targets: &[Target]) -> Result<usize, AllocError> {
     Ok(width)
 }
 
-/// The line of the first of these targets that is the same star, unless that is this one.
+/// The line of the first of these targets that is the same star, unless that is this one. (A search, and no map: a night has
+/// few wishes.)
 fn first_line(targets: &[Target], target: &Target) -> Option<usize> {
     targets
         .iter()
@@ -47,6 +48,7 @@ fn first_line(targets: &[Target], target: &Target) -> Option<usize> {
 /// The index at which the star rows hold the name of a star; the two angles follow.
 fn first_index(row: usize) -> u16 {
     let index = row.saturating_mul(3).saturating_add(100);
+    // No row of star rows is as far out.
     u16::try_from(index).unwrap_or(u16::MAX)
 }
 

@@ -22,10 +22,11 @@ fn three_parts(line: &[u8]) -> Option<(&[u8], &[u8], &[u8])>
     let name = parts.next()?;
     let ascension = parts.next()?;
     let declination = parts.next()?;
-    parts
-        .next()
-        .is_none()
-        .then_some((name, ascension, declination))
+    // Three parts only where no fourth comes: `is_none().then_some(..)` would hide which way round it is.
+    match parts.next() {
+        None => Some((name, ascension, declination)),
+        Some(_) => None,
+    }
 }
 
 /// The whole number that a part of a row writes, as a value of type In.

@@ -1,5 +1,5 @@
 //! The shelf.
-use crate::table::{Row, holds};
+use crate::table::{Row, comes_back, holds};
 use shelf::shelf::Shelf;
 use shelf::slot::Slot;
 use std::alloc::{AllocError, Global};
@@ -12,7 +12,7 @@ fn slot(line: &str) -> Result<Slot, Fail> {
     let mut row = Row::new(line);
     let index = row.number()?;
     let value = row.value()?;
-    Ok(Slot::new(index, value, row.next().is_some()))
+    Ok(Slot::new(index, value, row.next_word().is_some()))
 }
 
 /// The slots of a table.
@@ -25,15 +25,10 @@ pub fn shelf(heap: Global, low: u16, high: u16, table: &str) -> Result<Shelf, Fa
     Shelf::new(low, high, slots(heap, table)?).map_err(|_| Fail::new("no shelf"))
 }
 
-/// Checks that a shelf of the slots is turned down by 13 and that all of them come back.
+/// Checks that a shelf of the slots is turned down and that all of them come back.
 fn turned_down(rt: &impl Abort, low: u16, high: u16, slots: Vec<Slot>) -> Result<(), Fail> {
     let count = slots.len();
-    let Err(rejected) = Shelf::new(low, high, slots) else {
-        return Err(Fail::new("a shelf"));
-    };
-    assert!(rt; u8::from(rejected.refusal) == 13);
-    assert!(rt; rejected.given.len() == count);
-    Ok(())
+    comes_back(rt, Shelf::new(low, high, slots), count)
 }
 
 /// Checks that a shelf of the table is turned down.

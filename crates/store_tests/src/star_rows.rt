@@ -1,6 +1,6 @@
 //! The star rows.
 use crate::houses::text;
-use crate::table::holds;
+use crate::table::{comes_back, holds};
 use sky::star::Star;
 use stars::rows::StarRows;
 use std::alloc::Global;
@@ -103,12 +103,7 @@ fn most_rows(rt: HostRuntime) -> Result<(), Fail> {
 
 /// Checks that so many rows are turned down by 13 and come back.
 fn refused(rt: &impl Abort, heap: Global, count: u16) -> Result<(), Fail> {
-    let Err(rejected) = StarRows::new(many(heap, count)?) else {
-        return Err(Fail::new("none, or too many"));
-    };
-    assert!(rt; u8::from(rejected.refusal) == 13);
-    assert!(rt; rejected.given.len() == usize::from(count));
-    Ok(())
+    comes_back(rt, StarRows::new(many(heap, count)?), usize::from(count))
 }
 
 #[test]

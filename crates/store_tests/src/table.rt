@@ -11,6 +11,7 @@ use std::process::Abort;
 use std::str::Split;
 use std::test::Fail;
 use store::owner::{owner_write, write_text};
+use store::rejected::Rejected;
 use store::store::Store;
 use value::read::read_value;
 use value::value::Value;
@@ -30,13 +31,13 @@ impl<'a> Row<'a> {
     }
 
     /// The next word, if there is one.
-    pub fn next(&mut self) -> Option<&'a str> {
+    pub fn next_word(&mut self) -> Option<&'a str> {
         self.words.next()
     }
 
     /// The next word, or a fault of the table.
     fn word(&mut self) -> Result<&'a str, Fail> {
-        self.next().ok_or_else(|| Fail::new("a word is missing"))
+        self.next_word().ok_or_else(|| Fail::new("a word is missing"))
     }
 
     /// The number that the next word writes.
@@ -72,6 +73,20 @@ impl<'a> Row<'a> {
         assert!(rt; told == word, "{row}");
         Ok(())
     }
+}
+
+/// Checks that what was to be made is turned down by 13, and that so many come back.
+pub fn comes_back<M: Drop, T: Drop>(
+    rt: &impl Abort,
+    made: Result<M, Rejected<Vec<T>>>,
+    count: usize,
+) -> Result<(), Fail> {
+    let Err(rejected) = made else {
+        return Err(Fail::new("it was made"));
+    };
+    assert!(rt; u8::from(rejected.refusal) == 13);
+    assert!(rt; rejected.given.len() == count);
+    Ok(())
 }
 
 /// Checks the limits.

@@ -46,9 +46,10 @@ impl fmt::Display for GroupWords<'_> {
             Body::ReadRequest(indices) => write_words(f, indices),
             Body::WriteRequest(writes) => write_words(f, writes.map(Change)),
             Body::DiscoveryRequest => Ok(()),
-            Body::ReadAnswer(readings) => ReadingWords(readings).fmt(f),
+            Body::ReadAnswer(readings) | Body::DiscoveryAnswer(readings) => {
+                ReadingWords(readings).fmt(f)
+            }
             Body::WriteAnswer(codes) => CodeWords(codes).fmt(f),
-            Body::DiscoveryAnswer(readings) => ReadingWords(readings).fmt(f),
         }
     }
 }
