@@ -15,7 +15,8 @@ use slab_rows::place::Place;
 use writer::change::Change;
 
 // The clauses `counts`, `others` and `rest` compare what was before a call and after it, which no type can say: each call that
-// the station offers states them for itself, and `open` states them for two.
+// the station offers states them for itself, and `open` states them for two. Row k of the slab is the 512 bytes from 512 × k on,
+// a rule of the link, which contracts name, so it is written out.
 impl Catalogue {
     /// The number of the transaction that can be opened with partner `k`, or the first ground against opening one. Whether
     /// the order is allowed comes as a flag, since the grounds of time, memory and partner are told before it.

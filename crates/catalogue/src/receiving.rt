@@ -24,6 +24,7 @@ impl Waiting {
     }
 }
 
+// `Counted` and `PacketWithin` say of the packet handed out what `read_packet` says: of which bytes it is a part, no type tells.
 impl Catalogue {
     /// Settles the transaction that an answer belongs to, or turns a packet down.
     fn settle(&mut self, sender: u32, answer: &Packet<'_>) -> Result<(), Refusal>

@@ -4,7 +4,7 @@ ghost use Rattle.std.specs.Iterator.{YieldsFirstRef, item_count};
 ghost use Rattle.chart.specs.Lines.{lines_of, left};
 
 /// The lines of a text that are still to come. Any bytes may stand in a line; only a newline ends it, and the last line
-/// may lack it.
+/// may lack it. (std's `split` would hand out one more, an empty one, behind a last newline.)
 #[derive(Clone, Copy)]
 pub struct Lines<'a> {
     rest: &'a [u8],

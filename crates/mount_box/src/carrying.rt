@@ -19,7 +19,8 @@ use store::store::Store;
 use value::value::Value;
 use writer::answers::{write_discovery_answer, write_read_answer, write_write_answer};
 
-// Both loops count their places: what `iter_mut` lends has no name in a loop's invariant.
+// Both loops count their places: what `iter_mut` lends has no name in a loop's invariant. Of a request its version, its number
+// and one kind of groups travel on, and not the packet, whose body is matched once.
 
 /// Reads each index in the store, in order.
 fn read_all<S: Store>(store: &S, indices: Indices<'_>, readings: &mut [Result<Value, Code>])

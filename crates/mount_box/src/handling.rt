@@ -16,6 +16,7 @@ use protocol::refusal::Refusal;
 use slab_rows::place::Place;
 use store::store::Store;
 
+// Row k of the slab is the 512 bytes from 512 × k on: a rule of the link, which contracts name, so it is written out.
 impl<S: Store> MountBox<S> {
     /// Serves a read or write request: a repeat gets the kept reply, and what is due is carried out.
     fn serve(&mut self, slab: &mut [u8], sender: u32, request: Packet<'_>) -> Result<Place, Refusal>

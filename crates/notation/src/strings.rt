@@ -75,7 +75,7 @@ impl Iterator for Signs<'_> {
     }
 }
 
-/// The bytes that a word stands for.
+/// The bytes that a word stands for. (A `for` with `?`: a byte may be no sign or find no memory, and the contract says which.)
 #[tactic(auto, using(crate::proofs::Backs::read_back, crate::proofs::Notes::behind_start, crate::proofs::Notes::behind_more, crate::proofs::Notes::misread))]
 pub fn decode(heap: Global, word: &[u8]) -> Result<Vec<u8>, Trouble>
     ensures taken { Understood vec_items (word_of word.now) result }

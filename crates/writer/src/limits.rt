@@ -1,5 +1,5 @@
 //! Which orders can be written: those of 1 to 10 groups, in which each text is one and no value is
-//! missing.
+//! missing. Each call has the name of its rule, by which orders are judged; `is_counted` does the work of all.
 ghost use Rattle.std.specs.Prelude.{◌≡◌};
 ghost use Rattle.writer.specs.Orders.{counted, told, all_texts, all_told, changes_allowed, readings_allowed};
 
