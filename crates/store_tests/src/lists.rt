@@ -6,7 +6,8 @@ use store::runs::run;
 use store::step::{Answer, Step};
 use value::value::Value;
 
-/// What an answer tells: the code and, of a By that was found, its number.
+/// What an answer tells: the code and, of a By that was found, its number. The test's values are such pairs of numbers, as the
+/// protocol has them.
 fn told(answer: &Answer) -> (u8, u8) {
     match answer {
         Ok(Some(Value::By(found))) => (u8::from(Code::Done), *found),
