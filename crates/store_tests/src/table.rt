@@ -37,7 +37,8 @@ impl<'a> Row<'a> {
 
     /// The next word, or a fault of the table.
     fn word(&mut self) -> Result<&'a str, Fail> {
-        self.next_word().ok_or_else(|| Fail::new("a word is missing"))
+        self.next_word()
+            .ok_or_else(|| Fail::new("a word is missing"))
     }
 
     /// The number that the next word writes.
