@@ -2,7 +2,8 @@
 -- in stages, each behind the one before it; the newest event stands first.
 --     night        all its events
 --     Witnessed    it can happen, and what comes of it
-use Rattle.std.specs.Prelude.{◌≡◌, ℕ, ◌-◌, true, false, cond, List, [], ◌∷◌, map, length, replicate, pos, Some, None, Ok, Err, codes, Option, ◌==◌, refl}
+use Rattle.std.specs.Prelude.{◌≡◌, ℕ, ◌≤◌, true, false, cond, List, [], ◌∷◌, ◌++◌, map, length, take, replicate, pos, Some, None, Ok, Err, codes, Option, ◌==◌, refl}
+use Rattle.std.proofs.Common.{lit≤}
 use Rattle.std.proofs.Math.Utf8.{encode}
 use Rattle.std.specs.Str.{chars}
 use Rattle.protocol.specs.Texts.{textual}
@@ -19,9 +20,12 @@ use Rattle.link.specs.Transactions.{opening, failing, withdrawing, answering, mo
 use Rattle.link.specs.Carryings.{Carrying, carryings, last_write}
 use Rattle.link.specs.Runs.{Start, box_now, Happens}
 
--- the text of these bytes, in forty
-abbrev pub text : (bs : List ℕ) → textual bs ≡ true → Text
-text bs plain = record { characters = record { bytes = bs; spare = replicate (40 - length bs) 0 }; plain = plain }
+-- a text, in forty bytes
+abbrev pub padded : List ℕ → List ℕ
+padded bs = take 40 (bs ++ replicate 40 0)
+
+abbrev pub text : (bs : List ℕ) → length bs ≤ 40 → textual (take (length bs) (padded bs)) ≡ true → Text
+text bs short plain = record { bytes = padded bs; len = length bs; short = short; plain = plain }
 
 -- the mount is to point at a star: its name goes to element 100, its right ascension to 101 and its declination to 102
 abbrev pub aim : Text → Text → Text → Order
@@ -31,15 +35,15 @@ aim name ascension declination =
 -- at Vega, at Albireo, at Polaris
 abbrev pub vega : Order
 unfolding chars encode
-vega = aim (text (codes "Vega") refl) (text (codes "1005245045") refl) (text (codes "139621280") refl)
+vega = aim (text (codes "Vega") (lit≤ tt) refl) (text (codes "1005245045") (lit≤ tt) refl) (text (codes "139621280") (lit≤ tt) refl)
 
 abbrev pub albireo : Order
 unfolding chars encode
-albireo = aim (text (codes "Albireo") refl) (text (codes "1053649208") refl) (text (codes "100654848") refl)
+albireo = aim (text (codes "Albireo") (lit≤ tt) refl) (text (codes "1053649208") (lit≤ tt) refl) (text (codes "100654848") (lit≤ tt) refl)
 
 abbrev pub polaris : Order
 unfolding chars encode
-polaris = aim (text (codes "Polaris") refl) (text (codes "136636418") refl) (text (codes "321350792") refl)
+polaris = aim (text (codes "Polaris") (lit≤ tt) refl) (text (codes "136636418") (lit≤ tt) refl) (text (codes "321350792") (lit≤ tt) refl)
 
 -- what a store means that points there
 abbrev pub angle : ℕ → Option Element

@@ -28,3 +28,9 @@ few bs t = let s = (and_parts (sized bs) _ t).0 in leb-true _ _ (and_parts (leb 
 
 pub some : (bs : List ℕ) → textual bs ≡ true → 1 ≤ length bs
 some bs t = let s = (and_parts (sized bs) _ t).0 in leb-true _ _ (and_parts (leb 1 (length bs)) _ s).0
+
+pub textual_from : (bs : List ℕ) → sized bs ≡ true → free bs ≡ true → IsUtf8 bs → textual bs ≡ true
+textual_from bs s f u = and_from (sized bs) _ s (and_from (free bs) _ f ((utf8_decides bs).1 u))
+
+pub characters : (bs : List ℕ) → textual bs ≡ true → IsUtf8 bs
+characters bs t = (utf8_decides bs).0 (and_parts (free bs) _ (and_parts (sized bs) _ t).1).1

@@ -9,5 +9,5 @@ pub mod numeral;
 pub mod refusal;
 pub mod row;
 pub mod text;
-mod texts;
+pub mod texts;
 pub mod unknown;

@@ -4,7 +4,6 @@ ghost use Rattle.protocol.specs.Rows.{put_at, fits};
 ghost use Rattle.protocol.specs.Held.{digits_of};
 
 use crate::numeral::Numeral;
-use arrayvec::ArrayString;
 use itoa::Buffer;
 
 impl Numeral {
@@ -13,9 +12,11 @@ impl Numeral {
         ensures { digits_of result ≡ decimal n }
     {
         let mut buffer = Buffer::new();
-        let mut digits = ArrayString::new();
-        digits.push_str(buffer.format(n));
-        Numeral { digits }
+        let digits = buffer.format(n).as_bytes();
+        let len = digits.len();
+        let mut bytes = [0; 20];
+        bytes[..len].copy_from_slice(digits);
+        Numeral { bytes, len }
     }
 
     /// The digits as bytes.
@@ -23,7 +24,7 @@ impl Numeral {
         ensures value { result.now ≡ digits_of self.now }
         ensures short { length result.now ≤ 20 }
     {
-        self.digits.as_str().as_bytes()
+        &self.bytes[0..self.len]
     }
 }
 

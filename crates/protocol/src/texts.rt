@@ -1,13 +1,14 @@
-//! Making and reading texts.
-ghost use Rattle.std.specs.Prelude.{◌≡◌, ◌≤◌, true, length, Some};
+//! Making, reading and comparing texts.
+ghost use Rattle.std.specs.Prelude.{◌≡◌, ◌≤◌, true, length, Some, nat_eq};
 ghost use Rattle.std.specs.Option.{option_map};
+ghost use Rattle.std.specs.Cmp.{on_equiv, on_per, partial_equiv_from_equiv};
+ghost use Rattle.std.specs.Cmp.Lexicographic.{pointwise, nat_list_eq_equiv};
 ghost use Rattle.protocol.specs.Texts.{reserved, free, sized, textual, text_of};
 ghost use Rattle.protocol.specs.Held.{text_bytes};
 
 use crate::text::Text;
-use arrayvec::ArrayString;
 use std::fmt;
-use std::str::from_utf8;
+use std::str::{from_utf8, from_utf8_unchecked};
 
 /// Whether a packet reserves the byte.
 fn is_reserved(b: u8) -> bool
@@ -35,13 +36,16 @@ impl Text {
     pub fn new(bytes: &[u8]) -> Option<Text>
         ensures { option_map text_bytes result ≡ text_of bytes.now }
     {
-        if !is_sized(bytes) || !is_free(bytes) {
+        if !is_sized(bytes) || !is_free(bytes) || from_utf8(bytes).is_err() {
             return None;
         }
-        let characters = from_utf8(bytes).ok()?;
-        let mut text = ArrayString::new();
-        text.push_str(characters);
-        Some(Text { characters: text })
+        let n = bytes.len();
+        let mut held = [0; 40];
+        held[..n].copy_from_slice(bytes);
+        Some(Text {
+            bytes: held,
+            len: n as u8,
+        })
     }
 
     /// The characters of the text.
@@ -49,7 +53,7 @@ impl Text {
         ensures value { result.now ≡ text_bytes self.now }
         ensures plain { textual result.now ≡ true }
     {
-        self.characters.as_str()
+        unsafe { from_utf8_unchecked(self.as_bytes()) }
     }
 
     /// The bytes of the text.
@@ -58,8 +62,23 @@ impl Text {
         ensures plain { textual result.now ≡ true }
         ensures short { (1 ≤ length result.now) × (length result.now ≤ 40) }
     {
-        self.as_str().as_bytes()
+        &self.bytes[0..self.len as usize]
     }
+}
+
+/// By the bytes of the texts: what lies behind them does not count.
+impl PartialEq for Text {
+    ghost eq = { λ s t. pointwise nat_eq (text_bytes s) (text_bytes t) };
+
+    ghost laws = { on_per text_bytes (partial_equiv_from_equiv nat_list_eq_equiv) };
+
+    fn eq(&self, other: &Text) -> bool {
+        self.as_bytes() == other.as_bytes()
+    }
+}
+
+impl Eq for Text {
+    ghost laws = { on_equiv text_bytes nat_list_eq_equiv };
 }
 
 /// Writes the characters.

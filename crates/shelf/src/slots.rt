@@ -11,13 +11,11 @@ impl Slot {
     pub fn new(index: u16, value: Value, fixed: bool) -> Slot
         ensures { entry_of result ≡ record { index = index; element = record { kind = kind_of value; datum = datum_of value; fixed = fixed } } }
     {
-        // Kept first, since `kind` takes the value.
-        let kept = value;
         let kind = value.kind();
         Slot {
             index,
             kind,
-            value: kept,
+            value,
             fixed,
         }
     }
