@@ -1,10 +1,11 @@
--- What a draft holds after one thing was put behind the other.
-use Rattle.std.proofs.Common.{◌≡◌, ℕ, zero, suc, ◌+◌, min, ◌≤◌, Bool, true, false, leb, IsOk, OnOk, Ok, Err, Result, arith, List, [], ◌∷◌, ◌++◌, length, take, sym, refl, ap, ◌∙◌, subst, append_assoc, append-nil}
+-- What a draft holds after one thing was put behind the other, and what is put at the front of a row.
+use Rattle.std.proofs.Common.{◌≡◌, ℕ, zero, suc, ◌+◌, min, ◌≤◌, Bool, true, false, leb, IsOk, OnOk, Ok, Err, Result, arith, List, [], ◌∷◌, ◌++◌, length, take, sym, refl, ap, ◌∙◌, subst, append_assoc, append-nil, cond, drop, zero-add}
 use Rattle.std.specs.List.{flat_map}
 use Rattle.std.proofs.Math.Seq.{take-append-add}
-use Rattle.std.proofs.lemmas.Bool.{leb-true, leb-false}
+use Rattle.std.proofs.lemmas.Bool.{cond-true, le-leb, leb-true, leb-false}
 use Rattle.std.proofs.lemmas.List.{take_all, length-take, length-take-le}
 use Rattle.std.proofs.lemmas.List.Concat.{flat_map-append}
+use Rattle.protocol.specs.Rows.{put_at, fits}
 use Rattle.writer.specs.Bytes.{colon, parted}
 use Rattle.writer.specs.Drafts.{Puts}
 
@@ -74,3 +75,10 @@ puts_fitting {b = b} items a bytes room fitting told v r f fits ok =
 -- what a draft holds is short, and nothing put behind it leaves it
 pub puts_nothing : {a b : List ℕ} (xs : List ℕ) → Puts a xs b → Puts b [] b
 puts_nothing {a} {b} xs p = let l = length-take 512 (a ++ xs) in puts_none b (omega (arith, ap length p.now))
+
+-- bytes put at the front of a row that has room for them
+pub put_front : (row bytes after : List ℕ) (end : ℕ) → length bytes ≤ length row → end ≡ cond (fits row 0 bytes) (0 + length bytes) 0 → after ≡ cond (fits row 0 bytes) (put_at row 0 bytes) row → (end ≡ length bytes) × (after ≡ bytes ++ drop (length bytes) row)
+put_front row bytes after end room e a =
+    let all = zero-add (length bytes) in
+    let t : fits row 0 bytes ≡ true = le-leb (0 + length bytes) (length row) (omega arith) in
+    (e ∙ cond-true _ _ _ t ∙ all, a ∙ cond-true _ _ _ t ∙ ap (λ n. bytes ++ drop n row) all)

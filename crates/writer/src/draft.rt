@@ -4,8 +4,8 @@ ghost use Rattle.writer.specs.Bytes.{colon, parted, head_fields};
 ghost use Rattle.writer.specs.Drafts.{Puts};
 
 use arrayvec::ArrayVec;
-use itoa::Buffer;
 use packet::head::Head;
+use protocol::numeral::Numeral;
 use std::marker::Model;
 
 /// The bytes of a packet so far. There is room for 512.
@@ -62,7 +62,7 @@ impl Draft {
     pub(crate) fn put_number(&mut self, number: u16)
         ensures { Puts self.old (colon (decimal number)) self.new }
     {
-        self.put_field(Buffer::new().format(number).as_bytes());
+        self.put_field(Numeral::new(u64::from(number)).as_bytes());
     }
 
     /// Puts the opening brace and the four fields of the head.

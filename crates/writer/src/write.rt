@@ -33,7 +33,6 @@ pub(crate) fn write<G: Put + Drop, I: Iterator<Item = G> + Drop>(
         group.put(&mut draft);
     }
     draft.put(b"}");
-    let packet = draft.as_bytes();
-    row[..packet.len()].copy_from_slice(packet);
-    Ok(packet.len())
+    // There is room for all of them, so where they end is their length.
+    Ok(protocol::row::put(row, 0, draft.as_bytes()))
 }
