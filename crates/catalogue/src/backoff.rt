@@ -2,6 +2,7 @@
 ghost use Rattle.std.specs.Prelude.{◌≡◌, ◌≤◌, true};
 ghost use Rattle.catalogue.specs.Stations.{timely};
 ghost use Rattle.catalogue.specs.Backoff.{gives_up_at, reached, BacksOff, GivesUp};
+ghost use Rattle.catalogue.specs.Kept.{Sound};
 
 use crate::catalogue::Catalogue;
 use crate::timing::{LATEST, Timing};
@@ -34,10 +35,12 @@ impl Catalogue {
         ensures time { result ≡ reached (gives_up_at self.now.timing time) }
         ensures each { BacksOff self.now time }
         ensures all { GivesUp self.now time }
+        ensures sound { Sound self.now }
     {
+        let timing = self.timing;
         if time > LATEST {
             return None;
         }
-        Some(self.timing.last_deadline(time)).filter(|deadline| *deadline <= LATEST)
+        Some(timing.last_deadline(time)).filter(|deadline| *deadline <= LATEST)
     }
 }

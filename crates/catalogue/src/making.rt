@@ -1,6 +1,7 @@
 //! Making a catalogue, and enlisting its partners.
-ghost use Rattle.std.specs.Prelude.{◌≡◌};
+ghost use Rattle.std.specs.Prelude.{◌≡◌, IfOk};
 ghost use Rattle.catalogue.specs.Stations.{timely, making, enlisting};
+ghost use Rattle.catalogue.specs.Kept.{Sound};
 
 use crate::catalogue::Catalogue;
 use crate::partner::Partner;
@@ -24,7 +25,8 @@ impl Catalogue {
     /// A catalogue with a first interval of 1,000 to 60,000 milliseconds, a longest one of that to 600,000, and 0 to 20
     /// repeats. It has no partner yet.
     pub fn new(first: u32, longest: u32, repeats: u32) -> Result<Catalogue, Refusal>
-        ensures { result ≡ making (record { first = first; longest = longest; repeats = repeats }) }
+        ensures made { result ≡ making (record { first = first; longest = longest; repeats = repeats }) }
+        ensures sound { IfOk result Sound }
     {
         let timing = Timing {
             first,
@@ -47,6 +49,7 @@ impl Catalogue {
         ensures answer { result ≡ (enlisting self.old address).answer }
         ensures after { self.new ≡ (enlisting self.old address).after }
         ensures counts { self.new.counts ≡ self.old.counts }
+        ensures sound { Sound self.new }
     {
         if self.partner_at(address).is_some() {
             return Err(Refusal::Enlisted);

@@ -4,6 +4,7 @@ ghost use Rattle.packet.specs.Messages.{read_request, write_request};
 ghost use Rattle.writer.specs.Orders.{counted, change_of, changes_allowed};
 ghost use Rattle.catalogue.specs.Opening.{partner, opening, count_opened};
 ghost use Rattle.catalogue.specs.Judging.{judged, asking_with, Free, placed};
+ghost use Rattle.catalogue.specs.Kept.{Sound};
 ghost use Rattle.catalogue.specs.Promises.{tallied_opening, Others, Elsewhere, Back};
 
 use crate::catalogue::Catalogue;
@@ -25,6 +26,7 @@ impl Catalogue {
         ensures free { OnOk result (Free self.now k time) }
         ensures allowed { OnOk result (allowed ≡ true) }
         ensures row { OnOk result (512 * k + 512 ≤ memory) }
+        ensures sound { Sound self.now }
     {
         self.check_time(time)?;
         if memory < 8192 {
@@ -45,7 +47,8 @@ impl Catalogue {
         requires free { Free self.old k time }
         requires interval { waiting.interval ≤ self.old.timing.longest }
         requires repeats { waiting.repeats ≡ 0 }
-        ensures { self.new ≡ placed self.old k (asking_with waiting (partner self.old k)) time (count_opened self.old.counts) }
+        ensures after { self.new ≡ placed self.old k (asking_with waiting (partner self.old k)) time (count_opened self.old.counts) }
+        ensures sound { Sound self.new }
     {
         let partner = &mut self.partners[k];
         partner.next += 1;
@@ -69,6 +72,7 @@ impl Catalogue {
         ensures others { Others partner self.old self.new }
         ensures rest { Elsewhere result slab.old slab.new }
         ensures back { Back (O.content order) slab.new result }
+        ensures sound { Sound self.new }
     {
         let number = self.free_number(slab.len(), partner, time, order.is_allowed())?;
         let start = 512 * partner;
@@ -104,6 +108,7 @@ impl Catalogue {
         ensures others { Others partner self.old self.new }
         ensures rest { Elsewhere result slab.old slab.new }
         ensures back { Back (read_request indices.now) slab.new result }
+        ensures sound { Sound self.new }
     {
         self.open(slab, partner, time, indices)
     }
@@ -123,6 +128,7 @@ impl Catalogue {
         ensures others { Others partner self.old self.new }
         ensures rest { Elsewhere result slab.old slab.new }
         ensures back { Back (write_request (map change_of changes.now)) slab.new result }
+        ensures sound { Sound self.new }
     {
         self.open(slab, partner, time, changes)
     }

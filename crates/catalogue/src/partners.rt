@@ -13,7 +13,8 @@ use protocol::refusal::Refusal;
 impl Catalogue {
     /// Which partner has this address.
     pub(crate) fn partner_at(&self, address: u32) -> Option<usize>
-        ensures { result ≡ position (at_address address) self.now.partners }
+        ensures place { result ≡ position (at_address address) self.now.partners }
+        ensures sound { Sound self.now }
     {
         self.partners
             .iter()
@@ -41,7 +42,8 @@ impl Catalogue {
 
     /// Turns down a time that is before one that was accepted, or above 10^15.
     pub(crate) fn check_time(&self, time: u64) -> Result<(), Refusal>
-        ensures { result ≡ timed self.now time }
+        ensures timed { result ≡ timed self.now time }
+        ensures sound { Sound self.now }
     {
         if time < self.clock || time > LATEST {
             return Err(Refusal::Time);
@@ -52,6 +54,7 @@ impl Catalogue {
     /// The partner with this number.
     pub(crate) fn known(&self, k: usize) -> Result<Partner, Refusal>
         ensures answer { result ≡ known self.now k }
+        ensures sound { Sound self.now }
         ensures few { OnOk result (k < 16) }
     {
         self.partners.get(k).copied().ok_or(Refusal::Unknown)

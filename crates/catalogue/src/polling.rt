@@ -1,5 +1,6 @@
 //! Polling a partner.
 ghost use Rattle.std.specs.Prelude.{◌≡◌, ◌<◌, ◌≤◌, length, Some, Ok};
+ghost use Rattle.catalogue.specs.Kept.{Sound};
 ghost use Rattle.catalogue.specs.Opening.{partner};
 ghost use Rattle.catalogue.specs.Polling.{longer, spent, due, polling};
 ghost use Rattle.catalogue.specs.Promises.{tallied_polling, Others};
@@ -46,6 +47,7 @@ impl Catalogue {
         requires waits { (partner self.old k).waiting ≡ Some waiting }
         ensures answer { Ok result ≡ (due self.old k self.old.clock waiting).answer }
         ensures after { self.new ≡ (due self.old k self.old.clock waiting).after }
+        ensures sound { Sound self.new }
     {
         if self.timing.is_spent(waiting) {
             self.partners[k].waiting = None;
@@ -66,6 +68,7 @@ impl Catalogue {
         ensures after { self.new ≡ (polling self.old partner time).after }
         ensures counts { self.new.counts ≡ tallied_polling self.old.counts result }
         ensures others { Others partner self.old self.new }
+        ensures sound { Sound self.new }
     {
         self.check_time(time)?;
         let polled = self.known(partner)?;

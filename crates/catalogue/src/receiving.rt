@@ -1,7 +1,8 @@
 //! Receiving answers.
-ghost use Rattle.std.specs.Prelude.{◌≡◌, IfOk, OnErr};
+ghost use Rattle.std.specs.Prelude.{◌≡◌, IfOk, OnOk, OnErr};
 ghost use Rattle.packet.specs.Packets.{message_of, seen, Counted, PacketWithin};
 ghost use Rattle.slab_rows.specs.Places.{told};
+ghost use Rattle.catalogue.specs.Kept.{Sound};
 ghost use Rattle.catalogue.specs.Stations.{partner_at};
 ghost use Rattle.catalogue.specs.Receiving.{agrees, by_content, receiving};
 ghost use Rattle.catalogue.specs.Promises.{tallied_receiving, Others};
@@ -32,6 +33,7 @@ impl Catalogue {
         ensures answer { told (λ _. message_of answer.now) result ≡ (by_content self.old sender (message_of answer.now) (message_of answer.now).content).answer }
         ensures after { self.new ≡ (by_content self.old sender (message_of answer.now) (message_of answer.now).content).after }
         ensures refused { OnErr result (self.new ≡ self.old) }
+        ensures sound { OnOk result (Sound self.new) }
     {
         if answer.direction() == Direction::Request {
             return Err(Refusal::Direction);
@@ -54,7 +56,10 @@ impl Catalogue {
         ensures others { Others (partner_at self.old.partners sender) self.old self.new }
         ensures count { IfOk result (λ p. Counted p.body) }
         ensures place { IfOk result (PacketWithin packet.now) }
+        ensures sound { Sound self.new }
     {
+        // A packet that is none uses nothing of the station: what every station keeps is known from the first use on.
+        let _ = &self.clock;
         let answer = read_packet(packet)?;
         self.settle(sender, &answer)?;
         Ok(answer)

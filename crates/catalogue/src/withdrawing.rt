@@ -1,5 +1,6 @@
 //! Withdrawing a transaction.
 ghost use Rattle.std.specs.Prelude.{◌≡◌};
+ghost use Rattle.catalogue.specs.Kept.{Sound};
 ghost use Rattle.catalogue.specs.Promises.{tallied_withdrawing, Others};
 ghost use Rattle.catalogue.specs.Withdrawing.{withdrawing};
 
@@ -13,6 +14,7 @@ impl Catalogue {
         ensures after { self.new ≡ (withdrawing self.old partner).after }
         ensures counts { self.new.counts ≡ tallied_withdrawing self.old.counts result }
         ensures others { Others partner self.old self.new }
+        ensures sound { Sound self.new }
     {
         let waiting = self.known(partner)?.waiting.ok_or(Refusal::NoneWaits)?;
         self.partners[partner].waiting = None;

@@ -12,7 +12,7 @@ returns-then-is_some c =
     let s = c.args.self.now in
     let h : is_some (position (at_address c.args.address) s.partners) ≡ true = search rules in
     let e = enlisted_already s c.args.address h in
-    record { answer = sym (ap (λ x. x.answer) e); after = sym (ap (λ x. x.after) e); counts = refl }
+    record { answer = sym (ap (λ x. x.answer) e); after = sym (ap (λ x. x.after) e); counts = refl; sound = c.partner_at.ensures.sound }
 
 pub invariant_of-self-2 : goal.invariant_of-self-2
 invariant_of-self-2 c =
@@ -32,4 +32,5 @@ returns c =
       answer = ap Ok c.len-k.ensures.value ∙ sym (ap (λ x. x.answer) e);
       after = ap (λ ps. record { timing = s.timing; clock = s.clock; partners = ps; counts = s.counts }) p ∙ sym (ap (λ x. x.after) e);
       counts = search rules;
+      sound = subst (λ ps. Sound (record { timing = s.timing; clock = s.clock; partners = ps; counts = s.counts })) (sym p) (sound_enlisted s c.args.address c.self.invariant room);
     }

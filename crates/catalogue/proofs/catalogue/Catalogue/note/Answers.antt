@@ -12,3 +12,9 @@ invariant_of-self c =
     let s = station_of c.self.inside in
     let f = subst (λ s. Free s c.args.k c.args.time) (sym c.self.view_is) c.requires.free in
     rw c.deref_mut.ensures.value (sound_opened s c.args.k c.args.time c.self.invariant f c.args.waiting (search rules) c.requires.repeats)
+
+pub returns-clause-sound : goal.returns-clause-sound
+returns-clause-sound c =
+    let s = station_of c.self.inside in
+    let f = subst (λ s. Free s c.args.k c.args.time) (sym c.self.view_is) c.requires.free in
+    rw c.deref_mut.ensures.value (sound_opened s c.args.k c.args.time c.self.invariant f c.args.waiting (search rules) c.requires.repeats)

@@ -18,6 +18,7 @@ returns-in_err-number g c =
       others = search rules;
       rest = search rules;
       back = search rules;
+      sound = search rules;
     }
 
 pub returns : goal.returns
@@ -27,4 +28,4 @@ returns g c =
     let j : judged a.self.now (length a.slab.now) a.partner a.time (g.O.Order.allowed a.order) ≡ Ok number = search rules in
     let w = row_written a.self.now a.slab.now a.partner a.time (g.O.Order.allowed a.order) (g.O.Order.content a.order) number j (search rules) (search rules)
     c.in_ok-length.length c.write.new.row (search rules) c.write.ensures.row (search rules) in
-    record { answer = search rules; after = search rules; slab = w.defined; counts = search rules; others = search rules; rest = w.outside; back = w.back }
+    record { answer = search rules; after = search rules; slab = w.defined; counts = search rules; others = search rules; rest = w.outside; back = w.back; sound = search rules }

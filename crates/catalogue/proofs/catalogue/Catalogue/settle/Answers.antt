@@ -22,7 +22,7 @@ returns-in_err-k c =
     let asks : direction_of m.content ≡ Request → ⊥ = search rules in
     let n : None ≡ position (at_address c.args.sender) s.partners = search rules in
     let e = from_nobody s c.args.sender m m.content asks n in
-    record { answer = search rules; after = sym (ap (λ x. x.after) e); refused = search rules }
+    record { answer = search rules; after = sym (ap (λ x. x.after) e); refused = search rules; sound = search rules }
 
 pub returns-in_err-waiting : goal.returns-in_err-waiting
 returns-in_err-waiting c =
@@ -32,7 +32,7 @@ returns-in_err-waiting c =
     let n : Some c.in_ok-k.k ≡ position (at_address c.args.sender) s.partners = search rules in
     let w : (partner s c.in_ok-k.k).waiting ≡ None = search rules in
     let e = from_found s c.args.sender m m.content asks c.in_ok-k.k n None w in
-    record { answer = search rules; after = sym (ap (λ x. x.after) e); refused = search rules }
+    record { answer = search rules; after = sym (ap (λ x. x.after) e); refused = search rules; sound = search rules }
 
 pub returns-then-not-agrees : goal.returns-then-not-agrees
 returns-then-not-agrees c =
@@ -44,7 +44,7 @@ returns-then-not-agrees c =
     let e =
     from_found s c.args.sender m m.content asks c.in_ok-k.k n (Some c.in_ok-waiting.waiting) w
     ∙ cond-false (agrees c.in_ok-waiting.waiting m) _ _ (sym c.agrees.ensures ∙ c.if-not-agrees.true) in
-    record { answer = sym (ap (λ x. x.answer) e); after = sym (ap (λ x. x.after) e); refused = refl }
+    record { answer = sym (ap (λ x. x.answer) e); after = sym (ap (λ x. x.after) e); refused = refl; sound = tt }
 
 pub invariant_of-self : goal.invariant_of-self
 invariant_of-self c =
@@ -67,4 +67,5 @@ returns c =
       answer = sym (ap (λ x. x.answer) e);
       after = rw c.deref_mut.ensures.value (rewritten_is s k (freed (partner s k)) s.clock (count_answered s.counts) ∙ sym (ap (λ x. x.after) e));
       refused = tt;
+      sound = rw c.deref_mut.ensures.value (sound_settled s k c.self.invariant (search rules) w (search rules) (count_answered s.counts) refl refl (omega arith));
     }

@@ -11,3 +11,8 @@ pub invariant_of-self : goal.invariant_of-self
 invariant_of-self c =
     let s = station_of c.self.inside in
     rw c.deref_mut.ensures.value (sound_settled s c.args.partner c.self.invariant (search rules) c.in_ok-waiting.waiting (search rules) (count_withdrawn s.counts) refl refl (omega arith))
+
+pub returns-clause-sound : goal.returns-clause-sound
+returns-clause-sound c =
+    let s = station_of c.self.inside in
+    rw c.deref_mut.ensures.value (sound_settled s c.args.partner c.self.invariant (search rules) c.in_ok-waiting.waiting (search rules) (count_withdrawn s.counts) refl refl (omega arith))
