@@ -25,43 +25,45 @@ fn answer_line(heap: Global, line: &[u8], answers: &mut String) -> Result<(), Al
     if line.is_empty() || line.starts_with(b"#") {
         return Ok(());
     }
-    match command(heap, Words::new(line)) {
-        Ok(answer) => writeln!(answers, "{answer}"),
-        Err(Trouble::NotUnderstood) => writeln!(answers, "error"),
+    match command(heap, Words::new(line), answers) {
+        Ok(()) => Ok(()),
+        Err(Trouble::NotUnderstood) => answers.push_str("error\n"),
         Err(Trouble::NoMemory) => Err(AllocError),
     }
 }
 
-/// Carries out the command that the words of a line are.
-fn command(heap: Global, mut words: Words<'_>) -> Result<String, Trouble> {
+/// Carries out the command that the words of a line are. It writes only if it understands the whole line.
+fn command(heap: Global, mut words: Words<'_>, answers: &mut String) -> Result<(), Trouble> {
     match words.word()? {
-        b"value" => value(heap, words),
-        b"packet" => packet(heap, words),
+        b"value" => value(heap, words, answers),
+        b"packet" => packet(heap, words, answers),
         _ => Err(Trouble::NotUnderstood),
     }
 }
 
 /// Reads a text as a value of a type, and tells its spelling.
-fn value(heap: Global, mut words: Words<'_>) -> Result<String, Trouble> {
+fn value(heap: Global, mut words: Words<'_>, answers: &mut String) -> Result<(), Trouble> {
     let kind = read_kind(words.word()?)?;
     let text = decode(heap, words.word()?)?;
     words.end()?;
-    Ok(match read_value(kind, &text) {
+    match read_value(kind, &text) {
         Some(value) => {
             let spelling = value.spelling();
             let spelling = Noted::new(spelling.as_bytes());
-            format!(in heap; "value {spelling}")?
+            writeln!(answers, "value {spelling}")?;
         }
-        None => String::from_str(heap, "none")?,
-    })
+        None => answers.push_str("none\n")?,
+    }
+    Ok(())
 }
 
 /// Reads a packet, and tells what it says or why it is refused.
-fn packet(heap: Global, mut words: Words<'_>) -> Result<String, Trouble> {
+fn packet(heap: Global, mut words: Words<'_>, answers: &mut String) -> Result<(), Trouble> {
     let bytes = decode(heap, words.word()?)?;
     words.end()?;
-    Ok(match read_packet(&bytes) {
-        Ok(packet) => PacketLine(&packet).to_string(heap)?,
-        Err(refusal) => refusal.to_string(heap)?,
-    })
+    match read_packet(&bytes) {
+        Ok(packet) => writeln!(answers, "{}", PacketLine(&packet))?,
+        Err(refusal) => writeln!(answers, "{refusal}")?,
+    }
+    Ok(())
 }
