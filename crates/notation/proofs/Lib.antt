@@ -1,3 +1,4 @@
 pub mod Notes
 pub mod Backs
 pub mod Spaces
+pub mod Parts

@@ -1,13 +1,16 @@
 //! Byte strings: a byte from 0x21 to 0x7e but the backslash stands for itself, `\xNN` with two lower-case digits for any
 //! byte, and `\e` alone for the empty string.
-ghost use Rattle.std.specs.Prelude.{◌≡◌, ◌<◌, length, IfSome, Some, vec_items};
+ghost use Rattle.std.specs.Prelude.{◌≡◌, ◌+◌, ◌<◌, ◌≤◌, ◌++◌, length, take, IfSome, Some, vec_items};
+ghost use Rattle.std.specs.List.{flat_map};
+ghost use Rattle.std.specs.Str.{IsAscii};
 ghost use Rattle.std.specs.Iterator.{at_most};
-ghost use Rattle.notation.specs.Strings.{plain, digit_of, byte_of, word_of, noted, noted_byte, WordsReadBack};
+ghost use Rattle.notation.specs.Strings.{plain, hex_digit, digit_of, byte_of, word_of, noted, noted_byte, WordsReadBack};
 ghost use Rattle.notation.specs.Readings.{Understood, ReadsSign};
 
 use crate::trouble::Trouble;
 use std::alloc::Global;
 use std::fmt;
+use std::str::from_utf8;
 
 /// Bytes in the notation of a word, which `decode` takes for them.
 #[derive(Clone, Copy)]
@@ -22,10 +25,6 @@ impl<'a> Noted<'a> {
         Noted(bytes)
     }
 }
-
-/// A byte in the notation.
-#[derive(Clone, Copy)]
-struct NotedByte(u8);
 
 /// The signs of a word that are still to be read. Each stands for a byte.
 #[derive(Clone, Copy)]
@@ -48,6 +47,14 @@ fn digit(b: u8) -> Option<u8>
         b'a'..=b'f' => Some(b - b'a' + 10),
         _ => None,
     }
+}
+
+/// The lower-case hexadecimal digit of a number below 16.
+fn hex(n: u8) -> u8
+    requires { n < 16 }
+    ensures { result ≡ hex_digit n }
+{
+    if n < 10 { b'0' + n } else { b'a' + n - 10 }
 }
 
 /// The byte that two hexadecimal digits write.
@@ -91,16 +98,45 @@ pub fn decode(heap: Global, word: &[u8]) -> Result<Vec<u8>, Trouble>
     Ok(bytes)
 }
 
-impl fmt::Display for NotedByte {
-    ghost output = { λ n. Some (noted_byte n.0) };
+/// How many bytes are written at once.
+const PART: usize = 32;
 
-    fn fmt<W: fmt::Write>(&self, f: &mut fmt::Formatter<W>) -> fmt::Result {
-        let b = self.0;
-        if is_plain(b) {
-            return f.write_char(char::from(b));
-        }
-        write!(f, "\\x{b:02x}")
+/// Notes a byte behind what the room has up to here, and says where its note ends.
+fn note_byte(b: u8, room: &mut [u8; 128], at: usize) -> usize
+    requires { at + 4 ≤ 128 }
+    ensures end { result ≤ at + 4 }
+    ensures note { take result room.new ≡ take at room.old ++ noted_byte b }
+{
+    if is_plain(b) {
+        room[at] = b;
+        return at + 1;
     }
+    let (high, low) = (hex(b / 16), hex(b % 16));
+    room[at] = b'\\';
+    room[at + 1] = b'x';
+    room[at + 2] = high;
+    room[at + 3] = low;
+    at + 4
+}
+
+/// ASCII bytes as a text.
+fn text(bytes: &[u8]) -> &str
+    requires { IsAscii bytes.now }
+    ensures { result.now ≡ bytes.now }
+{
+    from_utf8(bytes).unwrap()
+}
+
+/// A few bytes in the notation, which the room holds.
+fn note<'r>(bytes: &[u8], room: &'r mut [u8; 128]) -> &'r str
+    requires { length bytes.now ≤ 32 }
+    ensures { result.now ≡ flat_map noted_byte bytes.now }
+{
+    let mut end = 0;
+    for b in bytes {
+        end = note_byte(*b, room, end);
+    }
+    text(&room[..end])
 }
 
 impl fmt::Display for Noted<'_> {
@@ -108,10 +144,13 @@ impl fmt::Display for Noted<'_> {
 
     fn fmt<W: fmt::Write>(&self, f: &mut fmt::Formatter<W>) -> fmt::Result {
         if self.0.is_empty() {
-            return write!(f, "\\e");
+            return f.write_str("\\e");
         }
-        for b in self.0 {
-            write!(f, "{}", NotedByte(*b))?;
+        let mut rest = self.0;
+        while !rest.is_empty() {
+            let (part, behind) = rest.split_at(rest.len().min(PART));
+            f.write_str(note(part, &mut [0; 128]))?;
+            rest = behind;
         }
         Ok(())
     }
