@@ -37,7 +37,7 @@ fn read_order(heap: Global, bytes: &[u8]) -> Result<String, AllocError> {
     if let Ok(packet) = read_packet(bytes)
         && let Body::WriteRequest(groups) = packet.body
     {
-        for group in groups {
+        for group in groups.take(usize::from(packet.count())) {
             write!(told, " {}={}", group.index, group.text.text)?;
         }
     }
