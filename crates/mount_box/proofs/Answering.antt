@@ -1,17 +1,11 @@
 -- Answers that a writer wrote.
 --     read_answers, who_answers                  from what a store gave
 --     length_codes                               a code for each write
---     front_counted                              as many places as a cursor counts
+--     few                                        what is counted is 10 at most
 --     received_counted                           a message that was received has 1 to 10 groups
 --     discovery_carries                          Discovery is answered in version 1.1
-use Rattle.std.proofs.Common.{◌≡◌, ℕ, suc, ◌≤◌, Bool, true, false, cond, not, ◌&&◌, eqb, List, [], ◌∷◌, map, length, Some, None, Ok, Err, Option, Result, sym, refl, ap, ◌∙◌, subst, ap₂, arith, take, leb}
-use Rattle.std.proofs.lemmas.List.{length-map, length-take-le}
-use Rattle.std.specs.Iterator.{Drains}
-use Rattle.std.proofs.lemmas.Iterator.{YieldsList}
-use Rattle.std.proofs.lemmas.Iterator.Consumers.{count_from_yields_List, YieldsList-from_shown}
-use Rattle.field.specs.declared.part.Part.{Part}
-use Rattle.packet.specs.declared.groups.Groups.{Groups}
-use Rattle.packet.specs.Cursors.{HandsOut}
+use Rattle.std.proofs.Common.{◌≡◌, ℕ, suc, ◌≤◌, Bool, true, false, cond, not, ◌&&◌, eqb, List, [], ◌∷◌, map, length, Some, None, Ok, Err, Option, Result, sym, refl, ap, ◌∙◌, subst, ap₂, arith, leb}
+use Rattle.std.proofs.lemmas.List.{length-map}
 use Rattle.std.proofs.lemmas.Bool.{and_from, and_parts, leb-true, le-leb}
 use Rattle.protocol.specs.Words.{code_number}
 use Rattle.protocol.specs.declared.code.Code.{Code}
@@ -80,20 +74,9 @@ all_shown c (r ∷ rs) (i ∷ is) e =
 counted_as : {X Y : Type 0} (xs : List X) (ys : List Y) → length xs ≡ length ys → counted xs ≡ true → counted ys ≡ true
 counted_as xs ys e h = rw e at h
 
-few : {X : Type 0} (xs : List X) → counted xs ≡ true → length xs ≤ 10
+-- what is counted is 10 at most
+pub few : {X : Type 0} (xs : List X) → counted xs ≡ true → length xs ≤ 10
 few xs h = leb-true (length xs) 10 (and_parts (leb 1 (length xs)) (leb (length xs) 10) h).1
-
--- a cursor yields what it has ahead
-yields_ahead : {G A X : Type 0} (said : A → X) (part : A → Option Part) (ahead : Groups G → List X) (c : Groups G) → YieldsList (HandsOut said part ahead) said c (ahead c)
-yields_ahead said part ahead c = YieldsList-from_shown (HandsOut said part ahead) said ahead (λ s t h. ap length h.0.0) (λ s x t h. h.0) c
-
--- so as many places as it counts are as many as there are groups
-pub front_counted : {G A X Y : Type 0} (said : A → X) (part : A → Option Part) (ahead : Groups G → List X) (c : Groups G) (n : ℕ) (places : List Y) → 10 ≤ length places → counted (ahead c) ≡ true
-    → (xs : List A) × Drains (HandsOut said part ahead) c xs × (n ≡ length xs) → length (take n places) ≡ length (ahead c)
-front_counted said part ahead c n places room h ran =
-    let all = count_from_yields_List c n ran (yields_ahead said part ahead c) in
-    let l = few (ahead c) h in
-    length-take-le n places (omega arith) ∙ all
 
 -- what reads in a store gave can be written
 shown_allowed : (c : Contents) (rs : List (Result Value Code)) (is : List ℕ) → map readout_of rs ≡ map (shown c) is → counted is ≡ true → readings_allowed rs ≡ true

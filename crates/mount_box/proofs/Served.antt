@@ -1,6 +1,7 @@
 -- What handling leaves, from what its calls did.
 --     handled_long   where the memory is long enough, the message decides
 --     in_room        in a row that is long enough the reply stands at the start
+--     served_size    a reply to what was due has at most 485 bytes
 --     due_served     a request that was due
 --     found_out      Discovery
 use Rattle.std.proofs.Common.{◌≡◌, ℕ, ◌+◌, ◌-◌, ◌*◌, ◌<◌, ◌≤◌, true, false, cond, List, ◌++◌, length, take, drop, set, Ok, Err, Option, Result, sym, refl, ap, ◌∙◌, subst, zero-add, arith}
@@ -74,6 +75,16 @@ row_served c m k n slab row ok p o h room a =
     let same : n ≡ length (bytes_of (reply_to c m)) = let t = w.0 in cc in
     let size : length (bytes_of (reply_to c m)) ≤ 485 = reply_size c ok p.0 m p.1 in
     (same, part_written (512 * k) (512 * k + 512 - 512 * k) slab (bytes_of (reply_to c m)) row (omega arith) (omega arith) w.1)
+
+-- a reply to what was due has at most 485 bytes
+pub served_size : (c : Contents) (m : Message) (k n : ℕ) (slab row : List ℕ) (s : Standing) → Sound c → Received m → Orders m.content → record_of (standing_of s) < 16 → s ≡ Due k → 8192 ≤ length slab
+    → Carries c m (Ok n) (take (512 * k + 512 - 512 * k) (drop (512 * k) slab)) row → n ≤ 485
+served_size c m k n slab row s ok p o in' is room a =
+    let h : k < 16 = subst (λ x. record_of (standing_of x) < 16) is in' in
+    let w = row_served c m k n slab row ok p o h room a in
+    let same : n ≡ length (bytes_of (reply_to c m)) = w.0 in
+    let size : length (bytes_of (reply_to c m)) ≤ 485 = reply_size c ok p.0 m p.1 in
+    omega arith
 
 -- what is due is carried out
 pub due_served : (b : Box) (sender k n : ℕ) (m : Message) (s : Standing) (r : Option SenderRecord) (row : List ℕ) (left : Contents) → Sound b.contents → Received m → Orders m.content → 8192 ≤ length b.slab

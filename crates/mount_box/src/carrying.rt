@@ -1,5 +1,5 @@
 //! Carrying out a request: its groups in order, and the answer with one group for each.
-ghost use Rattle.std.specs.Prelude.{◌≡◌, true, map, length};
+ghost use Rattle.std.specs.Prelude.{◌≡◌, ◌≤◌, true, map, length, take};
 ghost use Rattle.packet.specs.Cursors.{indices_ahead, writes_ahead};
 ghost use Rattle.packet.specs.Messages.{read_answer, write_answer};
 ghost use Rattle.packet.specs.Packets.{message_of};
@@ -19,28 +19,41 @@ use store::store::Store;
 use value::value::Value;
 use writer::answers::{write_discovery_answer, write_read_answer, write_write_answer};
 
-// Both loops count their places: what `iter_mut` lends has no name in a loop's invariant. Of a request its version, its number
-// and one kind of groups travel on, and not the packet, whose body is matched once.
+// Both loops count their places, since the count is what they tell, and what `iter_mut` lends has no name in a loop's
+// invariant. Of a request its version, its number and one kind of groups travel on, and not the packet, whose body is
+// matched once.
 
-/// Reads each index in the store, in order.
-fn read_all<S: Store>(store: &S, indices: Indices<'_>, readings: &mut [Result<Value, Code>])
-    requires { length readings.old ≡ length (indices_ahead indices) }
-    ensures { map readout_of readings.new ≡ map (shown (S.meaning store.now)) (indices_ahead indices.entry) }
+/// Reads each index in the store, in order, and tells how many there were.
+fn read_all<S: Store>(
+    store: &S,
+    indices: Indices<'_>,
+    readings: &mut [Result<Value, Code>],
+) -> usize
+    requires { length (indices_ahead indices) ≤ length readings.old }
+    ensures count { result ≡ length (indices_ahead indices.entry) }
+    ensures readings { map readout_of (take result readings.new) ≡ map (shown (S.meaning store.now)) (indices_ahead indices.entry) }
 {
-    for (k, index) in indices.enumerate() {
-        readings[k] = store.read(index);
+    let mut count = 0;
+    for index in indices {
+        readings[count] = store.read(index);
+        count += 1;
     }
+    count
 }
 
-/// Writes each text to the store, in order, and tells the codes.
-fn write_all<S: Store>(store: &mut S, writes: Writes<'_>, codes: &mut [Code])
-    requires { length codes.old ≡ length (writes_ahead writes) }
-    ensures codes { codes.new ≡ write_codes (S.meaning store.old) (writes_ahead writes.entry) }
+/// Writes each text to the store, in order, and tells how many there were.
+fn write_all<S: Store>(store: &mut S, writes: Writes<'_>, codes: &mut [Code]) -> usize
+    requires { length (writes_ahead writes) ≤ length codes.old }
+    ensures count { result ≡ length (writes_ahead writes.entry) }
+    ensures codes { take result codes.new ≡ write_codes (S.meaning store.old) (writes_ahead writes.entry) }
     ensures after { S.meaning store.new ≡ after_writes (S.meaning store.old) (writes_ahead writes.entry) }
 {
-    for (k, write) in writes.enumerate() {
-        codes[k] = write_text(store, write.index, write.text.text.as_bytes());
+    let mut count = 0;
+    for write in writes {
+        codes[count] = write_text(store, write.index, write.text.text.as_bytes());
+        count += 1;
     }
+    count
 }
 
 /// Answers a read request at the front of the row.
@@ -56,9 +69,8 @@ fn answer_read<S: Store>(
 {
     // An array and no `ArrayVec`, which starts empty only where its items have a default.
     let mut readings = [Err(Code::NotFound); 10];
-    let readings = &mut readings[..indices.count()];
-    read_all(store, indices, readings);
-    write_read_answer(row, version, number, readings)
+    let count = read_all(store, indices, &mut readings);
+    write_read_answer(row, version, number, &readings[..count])
 }
 
 /// Carries out a write request, and answers it at the front of the row.
@@ -75,9 +87,8 @@ fn answer_write<S: Store>(
 {
     // An array here too: a code has no default either.
     let mut codes = [Code::NotFound; 10];
-    let codes = &mut codes[..writes.count()];
-    write_all(store, writes, codes);
-    write_write_answer(row, version, number, codes)
+    let count = write_all(store, writes, &mut codes);
+    write_write_answer(row, version, number, &codes[..count])
 }
 
 /// Answers a Discovery request at the front of the row.

@@ -28,7 +28,7 @@ impl<S: Store> MountBox<S> {
         match self.senders.standing(sender, request.number)? {
             Standing::Repeated { row, length } => Ok(Place::Slab {
                 start: 512 * row,
-                length,
+                length: usize::from(length),
             }),
             Standing::Due { row } => {
                 let start = 512 * row;
@@ -36,7 +36,7 @@ impl<S: Store> MountBox<S> {
                 *self.senders.record_mut(row) = Some(SenderRecord {
                     address: sender,
                     newest: request.number,
-                    length,
+                    length: length as u16,
                 });
                 Ok(Place::Slab { start, length })
             }

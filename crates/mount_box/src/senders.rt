@@ -6,5 +6,5 @@
 pub struct SenderRecord {
     pub(crate) address: u32,
     pub(crate) newest: u16,
-    pub(crate) length: usize,
+    pub(crate) length: u16,
 }

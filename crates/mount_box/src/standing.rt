@@ -4,7 +4,7 @@
 #[derive(Clone, Copy, Debug, PartialEq, Eq)]
 pub(crate) enum Standing {
     /// The number again that this record has, with the length of the kept reply.
-    Repeated { row: usize, length: usize },
+    Repeated { row: usize, length: u16 },
     /// To be carried out for this record.
     Due { row: usize },
 }

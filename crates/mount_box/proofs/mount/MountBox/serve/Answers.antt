@@ -1,8 +1,15 @@
-use Rattle.std.proofs.Common.{refl}
+use Rattle.std.proofs.Common.{◌≤◌, refl, rules}
 use Rattle.packet.specs.Packets.{message_of}
 use Rattle.mount_box.specs.Views.{box_of}
-use Rattle.mount_box.proofs.Served.{not_refused, due_served}
+use Rattle.mount_box.proofs.Served.{not_refused, served_size, due_served}
 use Rattle.mount_box.proofs.mount.MountBox.serve.Goals as goal
+
+pub overflow_cast-length : goal.overflow_cast-length
+overflow_cast-length g c =
+    let few : c.in_ok-length-in-Due.length ≤ 485 =
+    served_size (g.S.Store.meaning c.args.self.now.store) (message_of c.args.request) c.in-Due.row c.in_ok-length-in-Due.length c.args.slab.now c.carry_out.new.row c.in_ok-row.field-0
+    (g.met.S.Store.sound c.args.self.now.store) c.requires.received c.requires.orders c.in_ok-row.ensures.within c.in-Due.is c.requires.room c.in_ok-length-in-Due.ensures.answer in
+    search rules
 
 pub returns-in_ok-length-in-Due : goal.returns-in_ok-length-in-Due
 returns-in_ok-length-in-Due g c =
