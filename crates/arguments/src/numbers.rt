@@ -25,6 +25,10 @@ pub trait Natural: TryFrom<u64> {
     // The number that a value is.
     ghost number: { Self → ℕ };
 
+    /// The greatest of them.
+    fn greatest() -> u64
+        ensures { result ≡ most };
+
     // It has 64 bits at most.
     ghost narrow: { most ≤ 18446744073709551615 };
 
@@ -40,6 +44,10 @@ impl Natural for u16 {
     ghost narrow = { lit≤ tt };
 
     ghost converts = { converts_up_to 65535 };
+
+    fn greatest() -> u64 {
+        u64::from(u16::MAX)
+    }
 }
 
 impl Natural for u32 {
@@ -50,6 +58,10 @@ impl Natural for u32 {
     ghost narrow = { lit≤ tt };
 
     ghost converts = { converts_up_to 4294967295 };
+
+    fn greatest() -> u64 {
+        u64::from(u32::MAX)
+    }
 }
 
 impl Natural for u64 {
@@ -60,6 +72,10 @@ impl Natural for u64 {
     ghost narrow = { lit≤ tt };
 
     ghost converts = { converts_up_to 18446744073709551615 };
+
+    fn greatest() -> u64 {
+        u64::MAX
+    }
 }
 
 /// A number that a word spells: an index is a `u16`, an address, a partner or a setting of a catalogue a `u32`, and a time
@@ -70,7 +86,7 @@ where
     T::Error: Drop,
     ensures { MatchResult result (λ n. numeral T.most word.now ≡ Some (T.number n)) (λ e. (e ≡ NotUnderstood) × (numeral T.most word.now ≡ None)) }
 {
-    let number = number(from_utf8(word)?, u64::MAX).ok_or(Trouble::NotUnderstood)?;
+    let number = number(from_utf8(word)?, T::greatest()).ok_or(Trouble::NotUnderstood)?;
     T::try_from(number).map_err(|_| Trouble::NotUnderstood)
 }
 
