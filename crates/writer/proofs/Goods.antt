@@ -24,10 +24,11 @@ use Rattle.field.specs.declared.words.Command.TheVariants.{Read, Write, Discover
 use Rattle.packet.specs.Heads.{Goes}
 use Rattle.packet.specs.Messages.{Message, Content, Bounded, Kept, count_of, direction_of, command_of, content_by, message_by, after_head, after_frame, packet_of, read_request, write_request, discovery_request, read_answer, write_answer, discovery_answer, with_ok}
 use Rattle.writer.specs.Bytes.{head_fields, content_fields, message_fields, colon, parted, bytes_of, index_fields, write_fields, code_fields, readout_fields}
+use Rattle.writer.specs.declared.draft.Draft.{Draft}
 use Rattle.writer.specs.Drafts.{Puts}
 use Rattle.writer.specs.Written.{at_start, written, Wrote, message_head, Spells}
 use Rattle.std.proofs.lemmas.List.Concat.{flat_map-append}
-use Rattle.writer.proofs.Drafts.{parted_more, puts_as, puts_packet}
+use Rattle.writer.proofs.Drafts.{parted_more, puts_as, puts_packet, puts_whole}
 use Rattle.packet.specs.declared.head.Head.{Head}
 use Rattle.packet.proofs.Pieces.{Piece}
 use Rattle.writer.proofs.Clean.{clean_textual, fields_parted, plain_parted, text_parted, fields_body}
@@ -253,19 +254,20 @@ good m b g k =
     let p = payload m.content b.some b.few b.both k in
     record { number = b.number; goes = g; clean = p.clean; reads = p.reads; small = p.small }
 
--- a message that keeps its rules was put into a draft, part by part, and from there to the front of the row
-pub wrote : {G : Type 0} {d₀ d₁ d₂ d₃ packet copied : List ℕ} (fields : G → List (List ℕ)) (groups : List G) (allowed : Bool) (head : Head) (m : Message) (row : List ℕ) → head ≡ message_head m → Spells fields groups allowed m → allowed ≡ true → 512 ≤ length row → d₀ ≡ [] → Puts d₀ (123 ∷ parted (head_fields head.version head.direction head.number head.command)) d₁ → Puts d₁ (flat_map colon (flat_map fields groups)) d₂ → Puts d₂ (125 ∷ []) d₃ → packet ≡ d₃ → copied ≡ packet → Wrote allowed m row (copied ++ drop (length packet) row) (Ok (length packet))
-wrote {d₀ = d₀} {d₁ = d₁} {d₂ = d₂} {d₃ = d₃} {packet = packet} {copied = copied} fields groups allowed head m row h s t room new p q r e c =
+-- a message that keeps its rules was put into a draft, part by part
+pub wrote : {G : Type 0} {d₀ d₁ d₂ d₃ : Draft} (fields : G → List (List ℕ)) (groups : List G) (allowed : Bool) (head : Head) (m : Message) (row after : List ℕ) (len : ℕ) → head ≡ message_head m → Spells fields groups allowed m → allowed ≡ true → 512 ≤ length row → d₀.row.now ≡ row → d₀.at ≡ 0 → Puts d₀ (123 ∷ parted (head_fields head.version head.direction head.number head.command)) d₁ → Puts d₁ (flat_map colon (flat_map fields groups)) d₂ → Puts d₂ (125 ∷ []) d₃ → after ≡ d₃.row.now → len ≡ d₃.at → Wrote allowed m row after (Ok len)
+wrote {d₀ = d₀} {d₁ = d₁} {d₂ = d₂} {d₃ = d₃} fields groups allowed head m row after len h s t room new at p q r e l =
     let k = s.ruled t in
     let g = good m k.bounded k.goes k.kept in
     let size = good_size m g in
-    let named = subst (λ (k : Head). Puts d₀ (123 ∷ parted (head_fields k.version k.direction k.number k.command)) d₁) h p in
-    let front = subst (λ d. Puts d (123 ∷ parted (head_fields m.version (direction_of m.content) m.number (command_of m.content))) d₁) new named in
+    let front = subst (λ (k : Head). Puts d₀ (123 ∷ parted (head_fields k.version k.direction k.number k.command)) d₁) h p in
     let middle = puts_as _ _ (ap (flat_map colon) s.same) q in
-    let is : packet ≡ bytes_of m = e ∙ puts_packet (version_word m.version) (drop 1 (head_fields m.version (direction_of m.content) m.number (command_of m.content))) (content_fields m.content) front middle r (omega arith) in
+    let whole = puts_packet (version_word m.version) (drop 1 (head_fields m.version (direction_of m.content) m.number (command_of m.content))) (content_fields m.content) front middle r in
+    let done = puts_whole (bytes_of m) whole at (omega (arith, ap length new)) in
     let all : written allowed m row ≡ at_start (bytes_of m) row = rw (le-ltb (length row) 512 room, t) in
+    let is : len ≡ length (bytes_of m) = l ∙ done.here in
     record {
-      told = ap (λ l. Ok (length l)) is ∙ sym (ap (λ w. w.told) all);
-      row = (λ i. (c ∙ is) i ++ drop (length (is i)) row) ∙ sym (ap (λ w. w.row) all);
-      back = (omega (arith, ap length is), good_back m g);
+      told = ap Ok is ∙ sym (ap (λ w. w.told) all);
+      row = e ∙ done.whole ∙ ap (λ r. bytes_of m ++ drop (length (bytes_of m)) r) new ∙ sym (ap (λ w. w.row) all);
+      back = (omega (arith, is), good_back m g);
     }

@@ -1,53 +1,42 @@
-//! A packet while it is put together.
-ghost use Rattle.std.specs.Prelude.{◌≡◌, ◌≤◌, [], ◌∷◌, length, decimal};
+//! A packet while it is put together, at the front of the row that it is written into.
+ghost use Rattle.std.specs.Prelude.{◌≡◌, ◌∷◌, decimal};
 ghost use Rattle.writer.specs.Bytes.{colon, parted, head_fields};
 ghost use Rattle.writer.specs.Drafts.{Puts};
 
-use arrayvec::ArrayVec;
 use packet::head::Head;
 use protocol::numeral::Numeral;
-use std::marker::Model;
+use protocol::row;
 
-/// The bytes of a packet so far. There is room for 512.
+/// The bytes of a packet so far: those of the caller's row up to the place where the next one goes.
 #[derive(Drop)]
-pub(crate) struct Draft {
-    bytes: ArrayVec<u8, 512>,
+pub(crate) struct Draft<'a> {
+    row: &'a mut [u8],
+    at: usize,
 }
 
-impl Model for Draft {
-    ghost use Rattle.std.specs.Prelude.{ℕ, List};
-
-    ghost Value = { List ℕ };
-
-    ghost view = { λ draft. draft.bytes.items };
-}
-
-impl Draft {
-    /// A draft without bytes.
-    pub(crate) fn new() -> Draft
-        ensures { result ≡ [] }
+impl<'a> Draft<'a> {
+    /// A draft without bytes, at the front of the row.
+    pub(crate) fn new(row: &'a mut [u8]) -> Draft<'a>
+        ensures name { result.row.ghost_name ≡ row.entry.ghost_name }
+        ensures row { result.row.now ≡ row.old }
+        ensures at { result.at ≡ 0 }
     {
-        Draft {
-            bytes: ArrayVec::new(),
-        }
+        Draft { row, at: 0 }
     }
 
-    /// The bytes so far.
-    pub(crate) fn as_bytes(&self) -> &[u8]
-        ensures value { result.now ≡ self.now }
-        ensures few { length result.now ≤ 512 }
+    /// How many bytes there are so far.
+    pub(crate) fn len(&self) -> usize
+        ensures { result ≡ self.now.at }
     {
-        self.bytes.as_slice()
+        self.at
     }
 
-    /// Puts bytes behind those so far, as many as there is room for. (Text by `write!` would answer a
+    /// Puts bytes behind those so far, if the row has room for them. (Text by `write!` would answer a
     /// `Result` with no promise of when it is `Ok`, and the calls that write a packet promise theirs.)
     pub(crate) fn put(&mut self, bytes: &[u8])
         ensures { Puts self.old bytes.now self.new }
     {
-        let fitting = bytes.len().min(self.bytes.remaining_capacity());
-        // It succeeds, since they fit.
-        let _ = self.bytes.try_extend_from_slice(&bytes[..fitting]);
+        self.at = row::put(self.row, self.at, bytes);
     }
 
     /// Puts a colon and a field.
@@ -62,10 +51,16 @@ impl Draft {
     pub(crate) fn put_number(&mut self, number: u16)
         ensures { Puts self.old (colon (decimal number)) self.new }
     {
-        self.put_field(Numeral::new(u64::from(number)).as_bytes());
+        if number < 10 {
+            // One digit, as of a code, is put with its colon.
+            self.put(&[b':', b'0' + number as u8]);
+        } else {
+            self.put_field(Numeral::new(u64::from(number)).as_bytes());
+        }
     }
 
-    /// Puts the opening brace and the four fields of the head.
+    /// Puts the opening brace and the four fields of the head. (Inlined, since most of a head is known where it is put.)
+    #[inline]
     pub(crate) fn put_head(&mut self, head: Head)
         ensures { Puts self.old (123 ∷ parted (head_fields head.version head.direction head.number head.command)) self.new }
     {

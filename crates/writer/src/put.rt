@@ -28,7 +28,7 @@ pub(crate) trait Put {
     ghost fits: { Self → Type 0 } = { λ _. Unit {0} };
 
     /// Puts the fields of the group.
-    fn put(&self, draft: &mut Draft)
+    fn put(&self, draft: &mut Draft<'_>)
         ensures puts { Puts draft.old (flat_map colon (fields self.now)) draft.new }
         ensures fits { fits self.now };
 }
@@ -38,7 +38,7 @@ impl<G: Put> Put for &G {
 
     ghost fits = { λ group. G.fits group.now };
 
-    fn put(&self, draft: &mut Draft) {
+    fn put(&self, draft: &mut Draft<'_>) {
         (**self).put(draft);
     }
 }
@@ -49,7 +49,7 @@ impl Put for u16 {
 
     ghost fits = { λ index. index < 65536 };
 
-    fn put(&self, draft: &mut Draft) {
+    fn put(&self, draft: &mut Draft<'_>) {
         draft.put_number(*self);
     }
 }
@@ -60,7 +60,7 @@ impl Put for Change {
 
     ghost fits = { λ change. change.index < 65536 };
 
-    fn put(&self, draft: &mut Draft) {
+    fn put(&self, draft: &mut Draft<'_>) {
         draft.put_number(self.index);
         draft.put_field(self.bytes());
     }
@@ -70,7 +70,7 @@ impl Put for Change {
 impl Put for Write<'_> {
     ghost fields = { λ write. write_fields (write_of write) };
 
-    fn put(&self, draft: &mut Draft) {
+    fn put(&self, draft: &mut Draft<'_>) {
         draft.put_number(self.index);
         draft.put_field(self.text.text.as_bytes());
     }
@@ -79,13 +79,13 @@ impl Put for Write<'_> {
 impl Put for Code {
     ghost fields = { code_fields };
 
-    fn put(&self, draft: &mut Draft) {
+    fn put(&self, draft: &mut Draft<'_>) {
         draft.put_number(u16::from(u8::from(*self)));
     }
 }
 
 /// Puts code 0, a type and a text.
-fn put_found(draft: &mut Draft, kind: Kind, text: &[u8])
+fn put_found(draft: &mut Draft<'_>, kind: Kind, text: &[u8])
     ensures { Puts draft.old (flat_map colon (readout_fields (found kind text.now))) draft.new }
 {
     draft.put_number(0);
@@ -99,7 +99,7 @@ impl Put for Value {
 
     ghost fits = { λ value. Valid (kind_of value) (datum_of value) };
 
-    fn put(&self, draft: &mut Draft) {
+    fn put(&self, draft: &mut Draft<'_>) {
         put_found(draft, self.kind(), self.spelling().as_bytes());
     }
 }
@@ -108,7 +108,7 @@ impl Put for Value {
 impl Put for Found<'_> {
     ghost fields = { λ found. readout_fields (again_readout (found_of found)) };
 
-    fn put(&self, draft: &mut Draft) {
+    fn put(&self, draft: &mut Draft<'_>) {
         match read_value(self.kind, self.text.text.as_bytes()) {
             Some(value) => value.put(draft),
             None => put_found(draft, self.kind, b""),
@@ -122,7 +122,7 @@ impl<V: Put> Put for Result<V, Code> {
 
     ghost fits = { λ reading. IfOk reading V.fits };
 
-    fn put(&self, draft: &mut Draft) {
+    fn put(&self, draft: &mut Draft<'_>) {
         match self {
             Ok(found) => found.put(draft),
             Err(code) => {

@@ -27,12 +27,12 @@ pub(crate) fn write<G: Put + Drop, I: Iterator<Item = G> + Drop>(
     if !allowed {
         return Err(Refusal::Limit);
     }
-    let mut draft = Draft::new();
+    let mut draft = Draft::new(row);
     draft.put_head(head);
     for group in groups {
         group.put(&mut draft);
     }
     draft.put(b"}");
-    // There is room for all of them, so where they end is their length.
-    Ok(protocol::row::put(row, 0, draft.as_bytes()))
+    // There is room for all of them, so all were put.
+    Ok(draft.len())
 }
