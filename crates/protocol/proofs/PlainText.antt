@@ -1,20 +1,21 @@
 -- Reserved bytes and UTF-8.
-use Rattle.std.proofs.Common.{◌≡◌, ℕ, ◌≤◌, true, false, not, ◌&&◌, ◌||◌, Bool, leb, List, [], ◌∷◌, length, IsUtf8, Decides, refl, ap, ◌∙◌}
+use Rattle.std.proofs.Common.{◌≡◌, ℕ, ◌+◌, ◌<◌, ◌≤◌, true, false, not, ◌&&◌, leb, List, length, get_or, drop, IsUtf8, Decides, sym, ap, ◌∙◌}
 use lib.Utf8.{scalars}
-use Rattle.std.specs.List.{list_any}
+use Rattle.std.proofs.lemmas.List.{at_drop_more}
 use Rattle.std.specs.Str.{chars}
 use Rattle.std.proofs.lemmas.Slice.Eq.{bytes_eq-Decides}
 use Rattle.std.proofs.lemmas.Str.{encodes-chars, scalars-chars}
 use Rattle.std.proofs.lemmas.Bool.{and_parts, and_from, leb-true}
 use Rattle.protocol.specs.Texts.{reserved, free, utf8, sized, textual}
 
-not_either : (a b : Bool) → not (a || b) ≡ (not a && not b)
-not_either true b = refl
-not_either false b = refl
+free_step : (bs : List ℕ) (i : ℕ) → i < length bs → free (drop i bs) ≡ (not (reserved (get_or bs i 0)) && free (drop (i + 1) bs))
+free_step bs i h = at_drop_more free bs i 0 h
 
-pub free_any : (bs : List ℕ) → not (list_any reserved bs) ≡ free bs
-free_any [] = refl
-free_any (b ∷ bs) = not_either (reserved b) (list_any reserved bs) ∙ ap (λ t. not (reserved b) && t) (free_any bs)
+pub free_more : (bs : List ℕ) (i : ℕ) → i < length bs → reserved (get_or bs i 0) ≡ false → free (drop (i + 1) bs) ≡ free (drop i bs)
+free_more bs i h e = sym (free_step bs i h ∙ ap (λ t. not t && free (drop (i + 1) bs)) e)
+
+pub free_stops : (bs : List ℕ) (i : ℕ) → i < length bs → reserved (get_or bs i 0) ≡ true → free (drop i bs) ≡ false
+free_stops bs i h e = free_step bs i h ∙ ap (λ t. not t && free (drop (i + 1) bs)) e
 
 -- `utf8` tests what `from_utf8` tests
 pub utf8_decides : (bs : List ℕ) → Decides (utf8 bs) (IsUtf8 bs)

@@ -17,11 +17,17 @@ fn is_reserved(b: u8) -> bool
     b == b'{' || b == b'}' || b == b':'
 }
 
-/// Whether none of the bytes is reserved.
+/// Whether none of the bytes is reserved. (A loop, and not `any`: so the compiler works it out for a text that stands in
+/// the code, and it takes no longer for any other.)
 fn is_free(bytes: &[u8]) -> bool
     ensures { result ≡ free bytes.now }
 {
-    !bytes.iter().any(|b| is_reserved(*b))
+    for b in bytes {
+        if is_reserved(*b) {
+            return false;
+        }
+    }
+    true
 }
 
 /// Whether there are 1 to 40 bytes.
